@@ -1,0 +1,24 @@
+-- `field::BFieldElement::inverse_of_half` meets its contract: the inverse of half of an even number is twice the number's. Assumes nothing.
+use Prim.Native.Nat.{ℕ}
+use mathlib.Core.Path.{ap, _∙_}
+use native.Mathlib.Omega.{arith}
+use borrow.Author.Needs.{needs}
+use Rattle.field.specs.Elements.{addF}
+use Rattle.field.proofs.Inverses.{invF-half}
+use Rattle.field.proofs.BFieldElement.inverse_of_half.Statement.{statement}
+use Rattle.field.proofs.BFieldElement.inverse_of_half.Tie as tie
+
+add-requires : tie.Need-add-requires
+add-requires c κs = search needs
+
+inverse-or-zero-requires : tie.Need-inverse-or-zero-requires
+inverse-or-zero-requires c κs = search needs
+
+returns : tie.Need-returns
+returns c = λ given. c .add .ensures ∙ ap (λ (n : ℕ). addF n n) given ∙ invF-half (c .before .before .args .x) (omega arith)
+
+returns-2 : tie.Need-returns-2
+returns-2 c = λ given. c .inverse-or-zero .ensures
+
+pub inverse-of-half-spec : {M : Type 1} → statement M
+inverse-of-half-spec = tie.close (tie.spec add-requires inverse-or-zero-requires returns returns-2)

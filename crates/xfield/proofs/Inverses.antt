@@ -1,0 +1,248 @@
+-- Inverses of extension elements. Multiplication by x is linear on the words; the cofactors of its matrix (first row) are the adjugate, and
+-- the adjugate times x is the norm of x, a base element. The norm of a product is the product of the norms. So x has an inverse
+-- exactly where its norm is not 0, which is decided by computing it; then the adjugate times the inverse of the norm is one.
+-- Inverses are unique. Assumes nothing.
+use Prim.Native.Nat.{ℕ, _%_}
+use mathlib.Core.Path.{_≡_, refl, sym, _∙_, ap, ap₂, subst}
+use mathlib.Core.Logic.{_≢_, _↔_}
+use mathlib.Core.Bool.{Bool, true, false, true≢false}
+use mathlib.Core.List.{[], _∷_}
+use native.Mathlib.Decide.{ℕ-discrete}
+use native.Mathlib.Omega.{arith}
+use lib.Dec.{T}
+use Rattle.field.specs.Elements.{p, addF, subF, mulF, invF, InverseOrZero}
+use Rattle.field.proofs.Ring.{Expr, var, con, neg, _:+_, _:*_, _:-_, solve, combine}
+use Rattle.field.proofs.Powers.{powBits, invF-computed}
+use Rattle.field.proofs.Inverses.{invF-is, invF-product}
+use Rattle.field.proofs.RingLaws.{𝔹, mulF-zero, mulF-comm}
+use Rattle.xfield.specs.Extension.{Ext, ext, zeroX, oneX, liftX, reduceX, mulX, scaleX, HasInverse, Reduced, InverseOrZeroX}
+use Rattle.xfield.proofs.RingLawsX.{ExprX, exprX, _*X_, X, Y, env, baseE, solveX, base-scaleX, 𝔼, neg-oneX}
+use Rattle.xfield.proofs.RingLawsX.{mulX-comm, mulX-assoc, mulX-one, mulX-zero, mulX-of-red, red-mulX, mulX-red}
+use Rattle.xfield.proofs.RingLawsX.{reduceX-reduced, reduced-eq, scaleX-reduced, scaleX-mulX, scaleX-zero, zeroX-reduced, liftX-mulF}
+
+-- ---- adjugate and norm
+unfoldable pub adjugateX : Ext → Ext
+adjugateX x =
+    ext
+    (subF (mulF (addF (x .a) (x .c)) (addF (x .a) (x .c))) (mulF (x .b) (subF (x .b) (x .c))))
+    (subF (mulF (x .c) (subF (x .b) (x .c))) (mulF (x .b) (addF (x .a) (x .c))))
+    (subF (mulF (x .b) (x .b)) (mulF (x .c) (addF (x .a) (x .c))))
+
+-- the first word of x times its adjugate; the others are 0
+unfoldable pub normX : Ext → ℕ
+normX x = mulX x (adjugateX x) .a
+
+abbrev adjugateE : ExprX → ExprX
+adjugateE x =
+    exprX
+    ((x .a :+ x .c) :* (x .a :+ x .c) :- x .b :* (x .b :- x .c))
+    (x .c :* (x .b :- x .c) :- x .b :* (x .a :+ x .c))
+    (x .b :* x .b :- x .c :* (x .a :+ x .c))
+
+abbrev normE : ExprX → Expr
+normE x = (x *X adjugateE x) .a
+
+pub adjugateX-mulX : (x : Ext) → mulX (adjugateX x) x ≡ ext (normX x) 0 0
+unfolding mulX adjugateX normX
+adjugateX-mulX x = solveX (adjugateE X *X X) (baseE (normE X)) refl (env x x x)
+
+pub normX-mulX : (x y : Ext) → normX (mulX x y) ≡ mulF (normX x) (normX y)
+unfolding mulX adjugateX normX
+normX-mulX x y = solve 𝔹 (normE (X *X Y)) (normE X :* normE Y) refl (env x y x)
+
+normX-one : normX oneX ≡ 1
+unfolding normX adjugateX mulX addF mulF subF
+normX-one = refl
+
+pub normX-red : (x : Ext) → normX x % p ≡ normX x
+unfolding normX
+normX-red x = ap (λ t. t .a) (mulX-red x (adjugateX x))
+
+one≢zero : _≢_ {A = ℕ} 1 0
+one≢zero = omega arith
+
+-- ---- an inverse exists exactly where the norm is not 0
+pub normX-not-zero : (x : Ext) → HasInverse x → normX x ≢ 0
+unfolding HasInverse
+normX-not-zero x (y, e) z =
+    one≢zero (sym normX-one ∙ ap normX (sym e) ∙ normX-mulX y x ∙ ap (mulF (normX y)) z ∙ mulF-comm (normX y) 0 ∙ mulF-zero (normX y))
+
+-- where i is the inverse of the norm, i times the adjugate is the inverse of x
+pub adjugateX-unit : (x : Ext) (i : ℕ) → InverseOrZero (normX x) i → normX x ≢ 0 → mulX (scaleX i (adjugateX x)) x ≡ oneX
+adjugateX-unit x i h f =
+    scaleX-mulX i (adjugateX x) x ∙ ap (scaleX i) (adjugateX-mulX x) ∙ base-scaleX i (normX x)
+    ∙ ap (λ t. ext t 0 0) (mulF-comm i (normX x) ∙ h .product (λ e. f (sym (normX-red x) ∙ e)))
+
+-- the inverse of a number modulo p, computed: square and multiply
+unfoldable pub invBits : ℕ → ℕ
+invBits n = powBits 64 n 18446744069414584319
+
+pub invBits-is : (n : ℕ) → InverseOrZero n (invBits n)
+unfolding invBits
+invBits-is n = subst (InverseOrZero n) (invF-computed n refl) (invF-is n)
+
+-- "It has an inverse when some element times it is (1, 0, 0)": decided, with the inverse
+unfoldable pub hasInverse? : (x : Ext) → Dec (HasInverse x)
+unfolding HasInverse
+hasInverse? x =
+    elim (ℕ-discrete (normX x) 0) [
+      | yes z ↦ no (λ h. normX-not-zero x h z)
+      | no f ↦ yes (scaleX (invBits (normX x)) (adjugateX x), adjugateX-unit x (invBits (normX x)) (invBits-is (normX x)) f)
+    ]
+
+pub hasInverse-iff : (x : Ext) → HasInverse x ↔ (normX x ≢ 0)
+unfolding HasInverse
+hasInverse-iff x =
+    (normX-not-zero x, λ f. (scaleX (invBits (normX x)) (adjugateX x), adjugateX-unit x (invBits (normX x)) (invBits-is (normX x)) f))
+
+-- the same as a test
+unfoldable pub invertible : Ext → Bool
+invertible x = elim (hasInverse? x) [ yes h ↦ true | no f ↦ false ]
+
+pub invertible-iff : (x : Ext) → T (invertible x) ↔ HasInverse x
+unfolding invertible
+invertible-iff x = go (hasInverse? x)
+  where
+    go : (d : Dec (HasInverse x)) → T (elim d [ yes h ↦ true | no f ↦ false ]) ↔ HasInverse x
+    go (yes h) = (λ t. h, λ g. tt)
+    go (no f) = (λ t. absurd t, λ g. f g)
+
+-- and its answers
+pub invertible-yes : (x : Ext) → HasInverse x → invertible x ≡ true
+invertible-yes x h = go (invertible x) (invertible-iff x .1 h)
+  where
+    go : (b : Bool) → T b → b ≡ true
+    go true t = refl
+    go false t = absurd t
+
+pub invertible-true : (x : Ext) → invertible x ≡ true → HasInverse x
+invertible-true x e = invertible-iff x .0 (subst T (sym e) tt)
+
+pub invertible-no : (x : Ext) → (HasInverse x → ⊥) → invertible x ≡ false
+invertible-no x f = go (invertible x) refl
+  where
+    go : (b : Bool) → invertible x ≡ b → b ≡ false
+    go true e = absurd (f (invertible-true x e))
+    go false e = refl
+
+pub invertible-false : (x : Ext) → invertible x ≡ false → HasInverse x → ⊥
+invertible-false x e h = true≢false (sym (invertible-yes x h) ∙ e)
+
+-- ---- the inverse is unique
+pub inverse-unique : (x y z : Ext) → mulX y x ≡ oneX → mulX z x ≡ oneX → reduceX y ≡ reduceX z
+inverse-unique x y z e f =
+    combine 𝔼 neg-oneX
+    (record { times = var 2; left = var 1 :* var 0; right = con 1 }
+    ∷ record { times = neg (var 1); left = var 2 :* var 0; right = con 1 } ∷ [])
+    (var 1) (var 2) refl (x ∷ y ∷ z ∷ []) e f
+
+pub inverse-or-zero-unique : (x r s : Ext) → InverseOrZeroX x r → InverseOrZeroX x s → r ≡ s
+inverse-or-zero-unique x r s h g = go (hasInverse? x)
+  where
+    go : Dec (HasInverse x) → r ≡ s
+    go (yes u) = reduced-eq r s (h .below) (g .below) (inverse-unique x r s (h .product u) (g .product u))
+    go (no f) = h .none f ∙ sym (g .none f)
+
+-- ---- inverse-or-zero as a function: the inverse that was found, its words below p, else zero
+unfoldable pub invX : Ext → Ext
+unfolding HasInverse
+invX x = elim (hasInverse? x) [ yes h ↦ reduceX (h .0) | no f ↦ zeroX ]
+
+pub invX-is : (x : Ext) → InverseOrZeroX x (invX x)
+unfolding invX HasInverse
+invX-is x = go (hasInverse? x)
+  where
+    go : (d : Dec (HasInverse x)) → InverseOrZeroX x (elim d [ yes h ↦ reduceX (h .0) | no f ↦ zeroX ])
+    go (yes h) = record { below = reduceX-reduced (h .0); product = λ g. red-mulX (h .0) x ∙ h .1; none = λ f. absurd (f h) }
+    go (no f) = record { below = zeroX-reduced; product = λ g. absurd (f g); none = λ g. refl }
+
+pub invX-only : (x r : Ext) → InverseOrZeroX x r → r ≡ invX x
+invX-only x r h = inverse-or-zero-unique x r (invX x) h (invX-is x)
+
+pub invX-reduced : (x : Ext) → Reduced (invX x)
+invX-reduced x = invX-is x .below
+
+pub invX-mulX : (x : Ext) → HasInverse x → mulX (invX x) x ≡ oneX
+invX-mulX x h = invX-is x .product h
+
+pub invX-none : (x : Ext) → (HasInverse x → ⊥) → invX x ≡ zeroX
+invX-none x f = invX-is x .none f
+
+-- zero is the inverse of none, so that invX x is zero exactly where x has no inverse
+pub invX-not-zero : (x : Ext) → HasInverse x → invX x ≢ zeroX
+invX-not-zero x h z = one≢zero (ap (λ t. t .a) (sym (invX-mulX x h) ∙ ap (λ t. mulX t x) z ∙ mulX-zero x))
+
+-- what times x is one
+pub invX-by-product : (x r : Ext) → Reduced r → mulX r x ≡ oneX → r ≡ invX x
+unfolding HasInverse
+invX-by-product x r b e = invX-only x r (record { below = b; product = λ h. e; none = λ f. absurd (f (r, e)) })
+
+-- the inverse of the norm times the adjugate
+pub adjugateX-inverse : (x : Ext) (i : ℕ) → InverseOrZero (normX x) i → InverseOrZeroX x (scaleX i (adjugateX x))
+adjugateX-inverse x i h =
+    record {
+      below = scaleX-reduced i (adjugateX x);
+      product = λ g. adjugateX-unit x i h (normX-not-zero x g);
+      none = λ f. ap (λ t. scaleX t (adjugateX x)) (h .none (zero-norm f (ℕ-discrete (normX x) 0))) ∙ scaleX-zero (adjugateX x);
+    }
+  where
+    zero-norm : (HasInverse x → ⊥) → Dec (normX x ≡ 0) → normX x % p ≡ 0
+    zero-norm f (yes z) = normX-red x ∙ z
+    zero-norm f (no g) = absurd (f (hasInverse-iff x .1 g))
+
+-- the same from its steps: y the adjugate, n the norm, i its inverse, r their product
+pub inverse-by-adjugate : (x y r : Ext) (n i : ℕ)
+    → y ≡ adjugateX x → n ≡ mulX x y .a → i ≡ invF n → r ≡ scaleX i y → InverseOrZeroX x r
+unfolding normX
+inverse-by-adjugate x y r n i e f g h =
+    let norm : n ≡ normX x = f ∙ ap (λ t. mulX x t .a) e in
+    subst (InverseOrZeroX x) (sym (h ∙ ap₂ scaleX (g ∙ ap invF norm) e)) (adjugateX-inverse x (invF (normX x)) (invF-is (normX x)))
+
+-- ---- words modulo p are enough
+pub hasInverse-red : (x : Ext) → HasInverse (reduceX x) ↔ HasInverse x
+unfolding HasInverse
+hasInverse-red x = (λ h. (h .0, sym (mulX-of-red (h .0) x) ∙ h .1), λ h. (h .0, mulX-of-red (h .0) x ∙ h .1))
+
+pub invX-of-red : (x : Ext) → invX (reduceX x) ≡ invX x
+invX-of-red x =
+    invX-only x (invX (reduceX x))
+    (record {
+      below = invX-reduced (reduceX x);
+      product = λ h. sym (mulX-of-red (invX (reduceX x)) x) ∙ invX-mulX (reduceX x) (hasInverse-red x .1 h);
+      none = λ f. invX-none (reduceX x) (λ h. f (hasInverse-red x .0 h));
+    })
+
+pub invertible-of-red : (x : Ext) → invertible (reduceX x) ≡ invertible x
+invertible-of-red x = go (hasInverse? x)
+  where
+    go : Dec (HasInverse x) → invertible (reduceX x) ≡ invertible x
+    go (yes h) = invertible-yes (reduceX x) (hasInverse-red x .1 h) ∙ sym (invertible-yes x h)
+    go (no f) = invertible-no (reduceX x) (λ h. f (hasInverse-red x .0 h)) ∙ sym (invertible-no x f)
+
+-- ---- products, and base elements
+pub hasInverse-one : HasInverse oneX
+unfolding HasInverse
+hasInverse-one = (oneX, mulX-one oneX)
+
+pub hasInverse-zero : HasInverse zeroX → ⊥
+unfolding HasInverse
+hasInverse-zero (y, e) = one≢zero (ap (λ t. t .a) (sym e ∙ mulX-comm y zeroX ∙ mulX-zero y))
+
+pub hasInverse-mulX : (x y : Ext) → HasInverse x → HasInverse y → HasInverse (mulX x y)
+unfolding HasInverse
+hasInverse-mulX x y (u, e) (v, f) = (mulX u v, product)
+  where
+    product : mulX (mulX u v) (mulX x y) ≡ oneX
+    product =
+        combine 𝔼 neg-oneX
+        (record { times = var 3 :* var 1; left = var 2 :* var 0; right = con 1 }
+        ∷ record { times = con 1; left = var 3 :* var 1; right = con 1 } ∷ [])
+        (var 2 :* var 3 :* (var 0 :* var 1)) (con 1) refl (x ∷ y ∷ u ∷ v ∷ []) e f
+
+pub hasInverse-factor : (x y : Ext) → HasInverse (mulX x y) → HasInverse x
+unfolding HasInverse
+hasInverse-factor x y (u, e) = (mulX u y, mulX-assoc u y x ∙ ap (mulX u) (mulX-comm y x) ∙ e)
+
+pub hasInverse-liftX : (v : ℕ) → v % p ≢ 0 → HasInverse (liftX v)
+unfolding HasInverse
+hasInverse-liftX v f = (liftX (invF v), sym (liftX-mulF (invF v) v) ∙ ap liftX (mulF-comm (invF v) v ∙ invF-product v f))

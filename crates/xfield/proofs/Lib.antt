@@ -1,0 +1,3 @@
+pub mod RingLawsX
+pub mod Inverses
+pub mod Laws
