@@ -1,0 +1,4 @@
+pub mod Comparing
+pub mod Entries
+pub mod Logarithm
+pub mod PlainLaws

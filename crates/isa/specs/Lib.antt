@@ -1,0 +1,3 @@
+pub mod Opcodes
+pub mod PlainFunctions
+pub mod Entries

@@ -1,0 +1,4 @@
+pub mod Judgements
+pub mod LittleEndian
+pub mod Sets
+pub mod Answers

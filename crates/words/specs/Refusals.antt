@@ -1,0 +1,38 @@
+-- Reasons to decline (document 01, the table under that heading).
+use Prim.Native.Nat.{ℕ, zero, suc}
+use mathlib.Core.Bool.{Bool, true, false}
+use Rattle.words.specs.declared.Refusal.{Refusal}
+use Rattle.words.specs.declared.Refusal.the-variants.{Shape, Stranger, Wide, BareLog, CountFull, ListFull}
+use Rattle.words.specs.declared.Refusal.the-variants.{Short, Unreduced, Flat, Torn, Repeat, Tally}
+use Rattle.words.specs.declared.Judgement.{Judgement}
+use Rattle.words.specs.declared.Judgement.the-variants.{Fine, Declined}
+
+-- the column "No."
+abbrev pub refusalNumber : Refusal → ℕ
+refusalNumber Shape = 1
+refusalNumber Stranger = 2
+refusalNumber Wide = 3
+refusalNumber BareLog = 4
+refusalNumber CountFull = 5
+refusalNumber ListFull = 6
+refusalNumber Short = 7
+refusalNumber Unreduced = 8
+refusalNumber Flat = 9
+refusalNumber Torn = 10
+refusalNumber Repeat = 11
+refusalNumber Tally = 12
+
+-- declined for this reason where the test is true
+abbrev pub declineIf : Bool → Refusal → Judgement
+declineIf true reason = Declined reason
+declineIf false reason = Fine
+
+-- "Order": the first reason counts, the second only where the first finds nothing
+abbrev pub orElse : Judgement → Judgement → Judgement
+orElse Fine next = next
+orElse (Declined reason) next = Declined reason
+
+-- "entry by entry": the first reason among n places from i on
+unfoldable pub firstReason : (ℕ → Judgement) → ℕ → ℕ → Judgement
+firstReason judge i zero = Fine
+firstReason judge i (suc n) = orElse (judge i) (firstReason judge (suc i) n)

@@ -1,0 +1,100 @@
+// What every call shares: the reasons to decline, limits, little-endian numbers, and storing a run of words in a lent array.
+ghost use mathlib.Core.Path.{_≡_};
+ghost use Prim.Native.Nat.{_+_, _^_, _≤_, _<_};
+ghost use lib.ListN.{length};
+ghost use lib.Seq.{sets};
+ghost use Rattle.words.specs.Refusals.{refusalNumber};
+ghost use Rattle.words.specs.LittleEndian.{leAt, le};
+
+// Document 01's "Reasons to decline", in its order.
+pub enum Refusal {
+    Shape,
+    Stranger,
+    Wide,
+    BareLog,
+    CountFull,
+    ListFull,
+    Short,
+    Unreduced,
+    Flat,
+    Torn,
+    Repeat,
+    Tally,
+}
+
+impl Refusal {
+    // The reason's number in document 01.
+    pub fn number(self) -> u64
+        ensures { λ r. ⌜ r ≡ refusalNumber self ⌝ }
+    {
+        match self {
+            Refusal::Shape => 1,
+            Refusal::Stranger => 2,
+            Refusal::Wide => 3,
+            Refusal::BareLog => 4,
+            Refusal::CountFull => 5,
+            Refusal::ListFull => 6,
+            Refusal::Short => 7,
+            Refusal::Unreduced => 8,
+            Refusal::Flat => 9,
+            Refusal::Torn => 10,
+            Refusal::Repeat => 11,
+            Refusal::Tally => 12,
+        }
+    }
+}
+
+// What a test of the input finds: nothing against it, or a reason to decline.
+pub enum Judgement {
+    Fine,
+    Declined(Refusal),
+}
+
+// The number in the k bytes from place `at`, lowest first.
+pub fn le_at(bytes: &[u8], at: usize, k: usize) -> u64
+    requires { ⌜ (k ≤ 8) × (at + k ≤ length (now bytes)) ⌝ }
+    ensures exact { λ r. ⌜ r ≡ leAt (now (bytes .entry)) at k ⌝ }
+    ensures bound { λ r. ⌜ r < 256 ^ k ⌝ }
+{
+    let mut n: u64 = 0;
+    let mut i = k;
+    while 0 < i {
+        i -= 1;
+        n = n * 256 + bytes[at + i] as u64;
+    }
+    n
+}
+
+// Eight bytes to a word.
+pub fn word_at(bytes: &[u8], at: usize) -> u64
+    requires { ⌜ at + 8 ≤ length (now bytes) ⌝ }
+    ensures { λ r. ⌜ r ≡ leAt (now (bytes .entry)) at 8 ⌝ }
+{
+    le_at(bytes, at, 8)
+}
+
+// Puts the k lowest bytes of n at place `at`, lowest first.
+pub fn put_le(bytes: &mut [u8], at: usize, k: usize, n: u64)
+    requires { ⌜ at + k ≤ length (now bytes) ⌝ }
+    ensures { λ _. ⌜ now (bytes .exit) ≡ sets (now (bytes .entry)) at (le k n) ⌝ }
+{
+    let mut rest = n;
+    let mut i = 0;
+    while i < k {
+        bytes[at + i] = (rest % 256) as u8;
+        rest /= 256;
+        i += 1;
+    }
+}
+
+// Stores a row of ten words at place `at` of a table.
+pub fn put_row(table: &mut [u64], at: usize, row: [u64; 10])
+    requires { ⌜ at + 10 ≤ length (now table) ⌝ }
+    ensures { λ _. ⌜ now (table .exit) ≡ sets (now (table .entry)) at row ⌝ }
+{
+    let mut i = 0;
+    while i < 10 {
+        table[at + i] = row[i];
+        i += 1;
+    }
+}
