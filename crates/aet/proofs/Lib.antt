@@ -1,0 +1,4 @@
+pub mod PaddedHeight
+pub mod JudgedLists
+pub mod Finding
+pub mod RecordingCases
