@@ -1,0 +1,92 @@
+-- What bytes hold, unpacked onto arrays of 2,048 places: judging that list is judging what the bytes hold. A stored multiplicity has four bytes, so
+-- that reason 5 is never met there.
+use mathlib.Core.Path.{_≡_, sym, ap, _∙_}
+use mathlib.Core.Bool.{true, false}
+use mathlib.Core.List.{List, map}
+use Prim.Native.Nat.{ℕ, _+_, _*_, _≤_, _<_}
+use native.Mathlib.Omega.{arith}
+use borrow.Author.Tests.{le-ltb, eq-eqb, ne-eqb}
+use lib.ListN.{length, getD}
+use lib.Seq.{sets, length-sets}
+use Rattle.words.specs.Refusals.{firstReason}
+use Rattle.words.specs.declared.Refusal.{Refusal}
+use Rattle.words.specs.declared.Refusal.the-variants.{Repeat, Tally}
+use Rattle.words.specs.declared.Judgement.the-variants.{Fine, Declined}
+use Rattle.words.proofs.Judgements.{or-first, or-next, or-fine, decline-true, decline-false, first-cong}
+use Rattle.words.proofs.LittleEndian.{leAt-bound}
+use Rattle.isa.specs.Entries.{judgeEntry, admitted}
+use Rattle.aet.specs.Lists.{U32List, u32List, keyAt, multiplicityAt, entryAt, listShape, countFull, judgePlace, judgeList}
+use Rattle.aet.specs.Heights.{sumHeights, listHeight}
+use Rattle.aet.proofs.JudgedLists.{shape-fine}
+use Rattle.stored.specs.Stored.{places, storedN, storedHeight, storedEntry, storedMultiplicity, storedEntries, admitStored, repeats, tally, contentReason}
+use Rattle.stored.proofs.Places.{map-cong, section-entries-map}
+use Rattle.stored.proofs.Replaced.{keysOf, key-put, multiplicity-put}
+
+-- the list on the arrays
+abbrev pub copy : ℕ → List ℕ → List ℕ → U32List
+copy n ks ms = u32List (record { capacity = 2048; used = n }) ks ms
+
+module _ (s ks₀ ms₀ ks ms : List ℕ) (n : ℕ) (bytes : (j : ℕ) → getD s j 0 < 256)
+    (is : n ≡ storedN s) (few : n ≤ 2048) (lk : length ks₀ ≡ 6144) (lm : length ms₀ ≡ 2048)
+    (ek : ks ≡ sets ks₀ 0 (keysOf (storedEntry s) n)) (em : ms ≡ sets ms₀ 0 (map (storedMultiplicity s) (places n))) where
+  copy-key : (i : ℕ) → i < n → keyAt (copy n ks ms) i ≡ storedEntry s i
+  copy-key i p = rw ek (key-put (storedEntry s) n ks₀ (omega arith) (copy n ks ms .sizes) ms i p)
+
+  copy-multiplicity : (i : ℕ) → i < n → multiplicityAt (copy n ks ms) i ≡ storedMultiplicity s i
+  copy-multiplicity i p = rw em (multiplicity-put (storedMultiplicity s) n ms₀ (omega arith) (copy n ks ms .sizes) ks i p)
+
+  copy-shape : listShape (copy n ks ms) ≡ Fine
+  copy-shape = shape-fine (copy n ks ms) (record {
+    small = omega arith;
+    within = few;
+    keys = ap length ek ∙ length-sets ks₀ 0 (keysOf (storedEntry s) n) ∙ lk;
+    multiplicities = ap length em ∙ length-sets ms₀ 0 (map (storedMultiplicity s) (places n)) ∙ lm;
+  })
+
+  copy-place : (i : ℕ) → i < n → judgePlace (copy n ks ms) i ≡ admitStored (storedEntry s i)
+  unfolding judgePlace countFull admitStored storedMultiplicity
+  copy-place i p =
+      let b = leAt-bound s bytes (8 + 17 * storedN s + 4 * i) 4 in
+      rw (copy-key i p, copy-multiplicity i p, le-ltb 4294967295 (storedMultiplicity s i) (omega arith)) (or-fine (judgeEntry (storedEntry s i)))
+
+  copy-judged : judgeList (copy n ks ms) ≡ firstReason (λ i. admitStored (storedEntry s i)) 0 (storedN s)
+  unfolding judgeList
+  copy-judged =
+      or-next _ copy-shape
+      ∙ first-cong (judgePlace (copy n ks ms)) (λ i. admitStored (storedEntry s i)) 0 n (λ i p q. copy-place i (omega arith))
+      ∙ ap (firstReason (λ i. admitStored (storedEntry s i)) 0) is
+
+  copy-entry : (i : ℕ) → i < n → entryAt (copy n ks ms) i ≡ storedEntry s i
+  unfolding entryAt admitted
+  copy-entry i p = copy-key i p
+
+  copy-entries : map (entryAt (copy n ks ms)) (places n) ≡ storedEntries s
+  copy-entries =
+      map-cong (entryAt (copy n ks ms)) (storedEntry s) 0 n (λ i p q. copy-entry i (omega arith)) ∙ ap (λ (k : ℕ). map (storedEntry s) (places k)) is
+
+  copy-height : listHeight (copy n ks ms) ≡ sumHeights (storedEntries s)
+  unfolding listHeight
+  copy-height = ap sumHeights (section-entries-map (copy n ks ms) ∙ copy-entries)
+
+  -- reason by reason
+  pub content-declined : {k : Refusal} → judgeList (copy n ks ms) ≡ Declined k → contentReason s ≡ Declined k
+  unfolding contentReason
+  content-declined e = or-first _ (sym copy-judged ∙ e)
+
+  module _ (fine : judgeList (copy n ks ms) ≡ Fine) where
+    pub content-repeat : repeats (map (entryAt (copy n ks ms)) (places n)) ≡ true → contentReason s ≡ Declined Repeat
+    unfolding contentReason
+    content-repeat e = or-next _ (sym copy-judged ∙ fine) ∙ or-first _ (decline-true Repeat (ap repeats (sym copy-entries) ∙ e))
+
+    module _ (none : repeats (map (entryAt (copy n ks ms)) (places n)) ≡ false) where
+      content-tally : contentReason s ≡ tally s
+      unfolding contentReason
+      content-tally = or-next _ (sym copy-judged ∙ fine) ∙ or-next _ (decline-false Repeat (ap repeats (sym copy-entries) ∙ none))
+
+      pub content-other : (storedHeight s ≡ listHeight (copy n ks ms) → ⊥) → contentReason s ≡ Declined Tally
+      unfolding tally
+      content-other h = content-tally ∙ rw (ne-eqb (storedHeight s) (sumHeights (storedEntries s)) (λ e. h (e ∙ sym copy-height)))
+
+      pub content-fine : storedHeight s ≡ listHeight (copy n ks ms) → contentReason s ≡ Fine
+      unfolding tally
+      content-fine h = content-tally ∙ rw (eq-eqb (storedHeight s) (sumHeights (storedEntries s)) (h ∙ copy-height))

@@ -1,0 +1,174 @@
+-- Stored lists (document 01, "Recording and stored lists", from "Stored, little-endian" on, and "Reasons to decline"): the bytes of a list,
+-- what bytes hold, reading and writing.
+use Prim.Native.Nat.{ℕ, zero, suc, _+_, _*_}
+use mathlib.Core.Path.{_≡_}
+use mathlib.Core.Bool.{Bool, false, not, _||_}
+use mathlib.Core.List.{List, [], _∷_, _++_, map, flatMap}
+use lib.Dec.{eqb, ltb}
+use lib.ListN.{length}
+use lib.Seq.{sets}
+use Rattle.words.specs.Limits.{maxPlaces}
+use Rattle.words.specs.LittleEndian.{leAt, le}
+use Rattle.words.specs.Answers.{Answer, done, declined}
+use Rattle.words.specs.Refusals.{declineIf, orElse, firstReason}
+use Rattle.words.specs.declared.Judgement.{Judgement}
+use Rattle.words.specs.declared.Judgement.the-variants.{Fine, Declined}
+use Rattle.words.specs.declared.Refusal.the-variants.{ListFull, Short, Torn, Repeat, Tally}
+use Rattle.isa.specs.declared.U32TableEntry.{U32TableEntry}
+use Rattle.isa.specs.Entries.{entry, lhs, rhs, judgeEntry}
+use Rattle.aet.specs.Lists.{U32List, u32List, capacity, used, entryAt, multiplicityAt, listShape, judgeList}
+use Rattle.aet.specs.Heights.{entriesAt, sumHeights, listHeight}
+use Rattle.aet.specs.Recording.{sameKey, After}
+use Rattle.stored.specs.declared.Read.{Read}
+use Rattle.stored.specs.declared.Read.the-variants.{Entries, Refused}
+use Rattle.stored.specs.declared.Written.{Written}
+use Rattle.stored.specs.declared.Written.the-variants.{Length, Refused as WriteRefused}
+
+-- n places from i on
+unfoldable pub placesFrom : ℕ → ℕ → List ℕ
+placesFrom i zero = []
+placesFrom i (suc n) = i ∷ placesFrom (suc i) n
+
+-- the first n places
+abbrev pub places : ℕ → List ℕ
+places n = placesFrom 0 n
+
+-- "writing takes N from used": the places of a list that are stored are the used ones, in their order, and N is how many they are
+unfoldable pub storedPlaces : U32List → List ℕ
+storedPlaces l = places (used l)
+
+-- "keys (opcode 1 byte, LHS 8, RHS 8)"
+abbrev pub keyWidth : ℕ
+keyWidth = 17
+
+-- "multiplicities of 4"
+abbrev pub multiplicityWidth : ℕ
+multiplicityWidth = 4
+
+-- "Length is exactly 8 + 21·N."
+abbrev pub storedLength : ℕ → ℕ
+storedLength n = 8 + (keyWidth + multiplicityWidth) * n
+
+unfoldable pub keyBytes : U32TableEntry → List ℕ
+keyBytes e = le 1 (e .opcode) ++ (le 8 (lhs e) ++ le 8 (rhs e))
+
+-- "Stored, little-endian: 4 bytes N, 4 bytes height; then N keys ..; then N multiplicities of 4."
+unfoldable pub storedBytes : U32List → List ℕ
+storedBytes l =
+    le 4 (length (storedPlaces l))
+    ++ (le 4 (listHeight l)
+    ++ (flatMap (λ i. keyBytes (entryAt l i)) (storedPlaces l)
+    ++ flatMap (λ i. le multiplicityWidth (multiplicityAt l i)) (storedPlaces l)))
+
+-- What bytes hold, read at the same offsets
+unfoldable pub storedN : List ℕ → ℕ
+storedN s = leAt s 0 4
+
+unfoldable pub storedHeight : List ℕ → ℕ
+storedHeight s = leAt s 4 4
+
+unfoldable pub storedEntry : List ℕ → ℕ → U32TableEntry
+storedEntry s i = entry (leAt s (8 + keyWidth * i) 1) (leAt s (9 + keyWidth * i) 8) (leAt s (17 + keyWidth * i) 8)
+
+unfoldable pub storedMultiplicity : List ℕ → ℕ → ℕ
+storedMultiplicity s i = leAt s (8 + keyWidth * storedN s + multiplicityWidth * i) multiplicityWidth
+
+abbrev pub storedEntries : List ℕ → List U32TableEntry
+storedEntries s = map (storedEntry s) (places (storedN s))
+
+-- 10: "stored length wrong or N above 2,048". Bytes too few to hold N have a wrong length too: none is shorter than 8
+unfoldable pub torn : List ℕ → Judgement
+torn s = declineIf (ltb maxPlaces (storedN s) || not (eqb (length s) (storedLength (storedN s)))) Torn
+
+-- 2 to 4 for a stored entry, which is taken as it stands in the bytes
+unfoldable pub admitStored : U32TableEntry → Judgement
+admitStored e = judgeEntry e
+
+-- whether an entry is among these
+unfoldable pub occurs : U32TableEntry → List U32TableEntry → Bool
+occurs e [] = false
+occurs e (f ∷ fs) = sameKey e f || occurs e fs
+
+-- 11: "equal keys in a stored list, or one to be written"
+unfoldable pub repeats : List U32TableEntry → Bool
+repeats [] = false
+repeats (e ∷ es) = occurs e es || repeats es
+
+-- 12: "stored height is not the sum"
+unfoldable pub tally : List ℕ → Judgement
+tally s = declineIf (not (eqb (storedHeight s) (sumHeights (storedEntries s)))) Tally
+
+-- ".. then 2 to 4 entry by entry, 11, 12"
+unfoldable pub contentReason : List ℕ → Judgement
+contentReason s =
+    orElse (firstReason (λ i. admitStored (storedEntry s i)) 0 (storedN s))
+    (orElse (declineIf (repeats (storedEntries s)) Repeat)
+    (tally s))
+
+-- "Read 1, 10, 6, then 2 to 4 entry by entry, 11, 12"; 6 is "on reading, N over the capacity"
+unfoldable pub readReason : U32List → List ℕ → Judgement
+readReason l s =
+    orElse (listShape l)
+    (orElse (torn s)
+    (orElse (declineIf (ltb (capacity l) (storedN s)) ListFull)
+    (contentReason s)))
+
+-- the three words of a key
+abbrev pub keyWords : U32TableEntry → List ℕ
+keyWords e = e .opcode ∷ lhs e ∷ rhs e ∷ []
+
+-- "Reading replaces the list, sets used to N and answers N .. Destination places past N .. are untouched."
+abbrev pub replaced : U32List → List ℕ → U32List
+replaced l s =
+    u32List (record { capacity = capacity l; used = storedN s })
+    (sets (l .keys) 0 (flatMap (λ i. keyWords (storedEntry s i)) (places (storedN s))))
+    (sets (l .multiplicities) 0 (map (storedMultiplicity s) (places (storedN s))))
+
+-- a refusal "changes nothing lent"
+abbrev pub readAs : Judgement → U32List → List ℕ → After
+readAs Fine l s = record { answer = done (storedN s ∷ []); list = replaced l s }
+readAs (Declined reason) l s = record { answer = declined reason; list = l }
+
+unfoldable pub readAll : U32List → List ℕ → After
+readAll l s = readAs (readReason l s) l s
+
+-- what the answer of a reading means
+abbrev pub readAnswer : Read → Answer
+readAnswer (Entries n) = done (n ∷ [])
+readAnswer (Refused reason) = declined reason
+
+-- the answer, the sizes and both arrays are those that are due
+pub record IsRead (due : After) (r : Read) (after : U32List) : Type 0 where
+  pub answer : readAnswer r ≡ due .answer
+  pub list : after ≡ due .list
+
+-- "Write 1, 2 to 5 entry by entry, 11, 7"; 7 is "output bytes too few"
+unfoldable pub writeReason : U32List → List ℕ → Judgement
+writeReason l out =
+    orElse (judgeList l)
+    (orElse (declineIf (repeats (entriesAt l (storedPlaces l))) Repeat)
+    (declineIf (ltb (length out) (storedLength (length (storedPlaces l)))) Short))
+
+-- the bytes lent after a writing, and its answer
+pub record AfterWriting : Type 0 where
+  pub answer : Answer
+  pub bytes : List ℕ
+
+-- "writing .. answers the length. .. bytes past the end, are untouched."
+abbrev pub writtenAs : Judgement → U32List → List ℕ → AfterWriting
+writtenAs Fine l out =
+    record { answer = done (storedLength (length (storedPlaces l)) ∷ []); bytes = sets out 0 (storedBytes l) }
+writtenAs (Declined reason) l out = record { answer = declined reason; bytes = out }
+
+unfoldable pub writeAll : U32List → List ℕ → AfterWriting
+writeAll l out = writtenAs (writeReason l out) l out
+
+-- what the answer of a writing means
+abbrev pub writtenAnswer : Written → Answer
+writtenAnswer (Length n) = done (n ∷ [])
+writtenAnswer (WriteRefused reason) = declined reason
+
+-- the answer and the bytes are those that are due
+pub record IsWritten (due : AfterWriting) (r : Written) (out : List ℕ) : Type 0 where
+  pub answer : writtenAnswer r ≡ due .answer
+  pub bytes : out ≡ due .bytes
