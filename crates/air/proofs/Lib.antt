@@ -1,0 +1,17 @@
+pub mod Rows
+pub mod Lists
+pub mod Factors
+pub mod Descent
+pub mod Lt
+pub mod And
+pub mod Log2Floor
+pub mod Pow
+pub mod PopCount
+pub mod Soundness
+pub mod Denominators
+pub mod RunningSums
+pub mod Values
+pub mod Scan
+pub mod Judging
+pub mod Claims
+pub mod Groups

@@ -1,0 +1,2 @@
+// The AIR of the U32 table.
+pub const MAIN_WIDTH: usize = 10;
