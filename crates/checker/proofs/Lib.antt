@@ -1,0 +1,4 @@
+pub mod Tests
+pub mod Groups
+pub mod Joined
+pub mod Clauses

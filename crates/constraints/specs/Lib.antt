@@ -1,0 +1,2 @@
+pub mod Deselection
+pub mod Parts

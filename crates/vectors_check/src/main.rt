@@ -1,0 +1,91 @@
+// Runs the stored vectors of the check: honest, damaged and foreign tables, and all refusals. Standard input has a call a line
+// (tools/vectors.py); what is printed is how many tables were found zero, nonzero or refused, and how many answers differ.
+use checker::Verdict;
+use libc::STDIN_FILENO;
+use vectors::part;
+use vectors::print_tally;
+use vectors::same_words;
+use vectors::tally;
+
+// An array in a buffer: how many of its words, and the place in the text after it.
+struct Taken {
+    length: usize,
+    next: usize,
+}
+
+fn take(text: &[u8], from: usize, buffer: &mut [u64]) -> Taken {
+    let count = vectors::number(text, from);
+    let length = vectors::within(count.value, buffer.len());
+    let next = vectors::numbers(text, count.next, buffer, length);
+    Taken { length, next }
+}
+
+// A verdict as numbers: document 01's number; 1 where a constraint is not zero, and then group, row, index and three words.
+fn numbers_of(verdict: Verdict) -> [u64; 8] {
+    match verdict {
+        Verdict::Zero => [0, 0, 0, 0, 0, 0, 0, 0],
+        Verdict::Nonzero(group, row, index, value) => [
+            0,
+            1,
+            group,
+            row as u64,
+            index as u64,
+            value.0.0,
+            value.1.0,
+            value.2.0,
+        ],
+        Verdict::Refused(reason) => [reason.number(), 0, 0, 0, 0, 0, 0, 0],
+    }
+}
+
+// Zero is kind 1, nonzero kind 2, refused kind 3.
+fn kind_of(number: u64, nonzero: u64) -> usize {
+    if 0 < number {
+        return 3;
+    }
+    if 0 < nonzero { 2 } else { 1 }
+}
+
+// A line: table, aux, challenges, and the eight numbers of the verdict that is wanted.
+fn check(text: &[u8], from: usize, counts: &mut [u64; 512]) -> usize {
+    let mut table = [0u64; 1024];
+    let mut aux = [0u64; 512];
+    let mut challenges = [0u64; 32];
+    let rows = take(text, from, &mut table);
+    let sums = take(text, rows.next, &mut aux);
+    let weights = take(text, sums.next, &mut challenges);
+    let got = numbers_of(checker::check(
+        part(&table, rows.length),
+        part(&aux, sums.length),
+        part(&challenges, weights.length),
+    ));
+    let mut wanted = [0u64; 8];
+    let next = vectors::numbers(text, weights.next, &mut wanted, 8);
+    let kind = kind_of(got[0], got[1]);
+    tally(counts, kind, got[0], same_words(&got, &wanted, 8));
+    next
+}
+
+// Runs the lines, at most a hundred thousand of them.
+fn run(text: &[u8], counts: &mut [u64; 512]) {
+    let mut at: usize = 0;
+    let mut lines: usize = 0;
+    while lines < 100000 {
+        let kind = vectors::number(text, at);
+        if kind.value != 1 {
+            return;
+        }
+        at = check(text, kind.next, counts);
+        lines += 1;
+    }
+}
+
+fn main() {
+    let mut text = [0u8; 524288];
+    let n = io::read_full(STDIN_FILENO, &mut text);
+    let mut counts = [0u64; 512];
+    run(&text[..n], &mut counts);
+    print_tally(b"zero", &counts, 1);
+    print_tally(b"nonzero", &counts, 2);
+    print_tally(b"refused", &counts, 3);
+}
