@@ -1,0 +1,99 @@
+-- The reasons against an extension in their order, 1, 8, 9: what each answer of the three tests makes of `extendReason`, what it tells that
+-- there is none, and what `extendAll` makes of it. Assumes nothing.
+use Prim.Native.Nat.{ℕ, _*_}
+use mathlib.Core.Path.{_≡_, refl, ap}
+use mathlib.Core.Bool.{Bool, true, false, _&&_, and-eq-true-iff}
+use mathlib.Core.List.{List}
+use lib.ListN.{length}
+use Rattle.words.specs.Answers.{done}
+use Rattle.words.specs.declared.Refusal.{Refusal}
+use Rattle.words.specs.declared.Refusal.the-variants.{Shape, Unreduced, Flat}
+use Rattle.words.specs.declared.Judgement.the-variants.{Fine, Declined}
+use Rattle.words.proofs.Judgements.{or-both, decline-not-fine}
+use Rattle.xfield.specs.Extension.{Ext}
+use Rattle.xfield.specs.declared.XFieldElement.{XFieldElement}
+use Rattle.xfield.specs.XFieldElements.{extOf}
+use Rattle.air.specs.Columns.{rowCount, auxWidth, tableShape, auxShape, allReduced}
+use Rattle.air.specs.Challenges.{challengeWords, challengesShape}
+use Rattle.air.specs.RunningSum.{summandAt, lookupSum}
+use Rattle.air.specs.Claim.{DenominatorsInvertible}
+use Rattle.air.proofs.Rows.{TableShape, table-shape, aux-shape, challenges-shape}
+use Rattle.u32_table.specs.Extending.{denominatorsOk, extendReason, elementWords, sumWords, extendAll}
+use Rattle.extension.specs.Extensions.{IsExtended}
+use Rattle.extension.specs.declared.Extended.the-variants.{Sum, Refused}
+use Rattle.extension.proofs.Sums.{denominators-invertible}
+
+module _ (table aux challenges : List ℕ) where
+  abbrev shape : Bool
+  shape = tableShape table && (auxShape table aux && challengesShape challenges)
+
+  abbrev reduced : Bool
+  reduced = allReduced table && allReduced challenges
+
+  abbrev invertible : Bool
+  invertible = denominatorsOk (summandAt table challenges) (rowCount table)
+
+  -- ---- the tests
+  pub no-shape : shape ≡ false → extendReason table aux challenges ≡ Declined Shape
+  unfolding extendReason
+  no-shape s = rw s
+
+  pub unreduced : shape ≡ true → reduced ≡ false → extendReason table aux challenges ≡ Declined Unreduced
+  unfolding extendReason
+  unreduced s r = rw (s, r)
+
+  pub flat : shape ≡ true → reduced ≡ true → invertible ≡ false → extendReason table aux challenges ≡ Declined Flat
+  unfolding extendReason
+  flat s r d = rw (s, r, d)
+
+  pub fine : shape ≡ true → reduced ≡ true → invertible ≡ true → extendReason table aux challenges ≡ Fine
+  unfolding extendReason
+  fine s r d = rw (s, r, d)
+
+  -- ---- what a shape tells
+  pub record Shaped : Type 0 where
+    pub table-is-whole : TableShape table
+    pub aux-length : length aux ≡ auxWidth * rowCount table
+    pub challenges-length : length challenges ≡ challengeWords
+
+  pub shaped : shape ≡ true → Shaped
+  shaped s =
+      let parts = and-eq-true-iff (tableShape table) (auxShape table aux && challengesShape challenges) .0 s in
+      let arrays = and-eq-true-iff (auxShape table aux) (challengesShape challenges) .0 (parts .1) in
+      record {
+        table-is-whole = table-shape table (parts .0);
+        aux-length = aux-shape table aux (arrays .0);
+        challenges-length = challenges-shape challenges (arrays .1);
+      }
+
+  -- ---- what it tells that there is no reason
+  pub record Extendable : Type 0 where
+    pub shapes : Shaped
+    pub table-reduced : allReduced table ≡ true
+    pub challenges-reduced : allReduced challenges ≡ true
+    pub denominators : DenominatorsInvertible table challenges
+
+  pub extendable : extendReason table aux challenges ≡ Fine → Extendable
+  unfolding extendReason
+  extendable h =
+      let one = or-both _ _ h in
+      let eight = or-both _ _ (one .1) in
+      let words = and-eq-true-iff (allReduced table) (allReduced challenges) .0 (decline-not-fine reduced Unreduced (eight .0)) in
+      record {
+        shapes = shaped (decline-not-fine shape Shape (one .0));
+        table-reduced = words .0;
+        challenges-reduced = words .1;
+        denominators = denominators-invertible table challenges .0 (decline-not-fine invertible Flat (eight .1));
+      }
+
+  -- ---- answers and aux words
+  pub extended-refused : {reason : Refusal}
+      → extendReason table aux challenges ≡ Declined reason → IsExtended (extendAll table aux challenges) (Refused reason) aux
+  unfolding extendAll
+  extended-refused e = rw e (record { answer = refl; aux = refl })
+
+  pub extended : {sum : XFieldElement} {after : List ℕ}
+      → extendReason table aux challenges ≡ Fine → extOf sum ≡ lookupSum table challenges
+      → after ≡ sumWords (summandAt table challenges) (rowCount table) → IsExtended (extendAll table aux challenges) (Sum sum) after
+  unfolding extendAll
+  extended e s w = rw e (record { answer = ap (λ (x : Ext). done (elementWords x)) s; aux = w })

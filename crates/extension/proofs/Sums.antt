@@ -1,0 +1,134 @@
+-- What the definitions of the extension say. `denominatorOk` is "has an inverse" for a CopyFlag 1 row, and `denominatorsOk` says it of each of
+-- the first n rows. The words of n sums are 3 * n, and element i of them is the sum of the first i + 1 rows: all by induction on the rows.
+-- Then a row's turn in the loop that stores the sums, and what the loop has stored at its end. Assumes nothing.
+use Prim.Native.Nat.{ℕ, zero, suc, _+_, _*_, _<_}
+use mathlib.Core.Path.{_≡_, refl, sym, ap, _∙_}
+use mathlib.Core.Logic.{_↔_}
+use mathlib.Core.Bool.{Bool, true, false, and-eq-true-iff, true≢false}
+use mathlib.Core.List.{List, _++_, append-nil}
+use native.Mathlib.Numerals.{add-one}
+use native.Mathlib.Omega.{arith}
+use lib.Dec.{eqb}
+use lib.ListN.{length, getD, length-append, List·getD-append, drop}
+use lib.Seq.{sets, getD-append-add, drop-length}
+use borrow.Author.Count.{below-more}
+use borrow.Author.Tests.{eqb-true, eq-eqb}
+use Rattle.words.proofs.Sets.{sets-then, sets-front}
+use Rattle.xfield.specs.Extension.{Ext, HasInverse}
+use Rattle.xfield.proofs.Inverses.{invertible-yes, invertible-true}
+use Rattle.air.specs.Columns.{Row, rowAt, rowCount, elementAt}
+use Rattle.air.specs.Challenges.{Challenges, challengesOf}
+use Rattle.air.specs.RunningSum.{Summand, addSummand, runningSum, summandAt}
+use Rattle.air.specs.Claim.{DenominatorsInvertible}
+use Rattle.u32_table.specs.Extending.{denominatorOk, denominatorsOk, elementWords, sumWords}
+use Rattle.extension.specs.Extensions.{summandOf}
+
+-- ---- a row and its summand
+
+pub row-summand : (table challenges : List ℕ) (i : ℕ) {row : Row} {c : Challenges}
+    → row ≡ rowAt table i → c ≡ challengesOf challenges → summandOf c row ≡ summandAt table challenges i
+unfolding summandAt
+row-summand table challenges i e f = rw (e, f)
+
+-- ---- no denominator without inverse
+
+pub denominator-ok-iff : (s : Summand) → (denominatorOk s ≡ true) ↔ (s .flag ≡ 1 → HasInverse (s .denominator))
+unfolding denominatorOk
+denominator-ok-iff s =
+    (λ h f. invertible-true (s .denominator) (rw (eq-eqb (s .flag) 1 f) at h), λ g. go g (eqb (s .flag) 1) refl)
+  where
+    go : (s .flag ≡ 1 → HasInverse (s .denominator)) → (t : Bool) → eqb (s .flag) 1 ≡ t → denominatorOk s ≡ true
+    go g true e = rw e (invertible-yes (s .denominator) (g (eqb-true (s .flag) 1 e)))
+    go g false e = rw e
+
+module _ (s : ℕ → Summand) where
+  pub denominators-ok-iff : (n : ℕ) → (denominatorsOk s n ≡ true) ↔ ((i : ℕ) → i < n → denominatorOk (s i) ≡ true)
+  unfolding denominatorsOk
+  denominators-ok-iff zero = (λ h i l. absurd (omega arith), λ g. refl)
+  denominators-ok-iff (suc n) =
+      let parts = and-eq-true-iff (denominatorsOk s n) (denominatorOk (s n)) in
+      let rest = denominators-ok-iff n in (
+        λ h i l. below-more _ n (rest .0 (parts .0 h .0)) (parts .0 h .1) i (omega arith),
+        λ g. parts .1 (rest .1 (λ i l. g i (omega arith)), g n (omega arith)),
+      )
+
+  -- one row more
+  pub denominators-more : (i : ℕ) → denominatorsOk s i ≡ true → denominatorOk (s i) ≡ true → denominatorsOk s (i + 1) ≡ true
+  unfolding denominatorsOk
+  denominators-more i h e = rw (add-one i, h) e
+
+  -- one that is not ok
+  pub denominators-not-ok : (n i : ℕ) → i < n → denominatorOk (s i) ≡ false → denominatorsOk s n ≡ false
+  denominators-not-ok n i l e = go (denominatorsOk s n) refl
+    where
+      go : (t : Bool) → denominatorsOk s n ≡ t → t ≡ false
+      go true h = absurd (true≢false (sym (denominators-ok-iff n .0 h i l) ∙ e))
+      go false h = refl
+
+  pub ok-inverse : (n : ℕ) → denominatorsOk s n ≡ true → (i : ℕ) → i < n → s i .flag ≡ 1 → HasInverse (s i .denominator)
+  ok-inverse n h i l = denominator-ok-iff (s i) .0 (denominators-ok-iff n .0 h i l)
+
+-- of a table: not "a CopyFlag 1 denominator without inverse"
+pub denominators-invertible : (table challenges : List ℕ)
+    → (denominatorsOk (summandAt table challenges) (rowCount table) ≡ true) ↔ DenominatorsInvertible table challenges
+unfolding summandAt
+denominators-invertible table challenges =
+    let s = summandAt table challenges in
+    let each = denominators-ok-iff s (rowCount table) in
+    (ok-inverse s (rowCount table), λ g. each .1 (λ i l. denominator-ok-iff (s i) .1 (g i l)))
+
+-- ---- the words of the sums
+module _ (s : ℕ → Summand) where
+  pub sums-length : (n : ℕ) → length (sumWords s n) ≡ 3 * n
+  unfolding sumWords
+  sums-length zero = refl
+  sums-length (suc n) = let rest = sums-length n in length-append (sumWords s n) (elementWords (runningSum s (suc n))) ∙ omega arith
+
+  earlier : (n i : ℕ) → i < n → elementAt (sumWords s (suc n)) i ≡ elementAt (sumWords s n) i
+  unfolding elementAt sumWords
+  earlier n i l = λ t. record {
+    a = word (3 * i) (omega arith) t;
+    b = word (3 * i + 1) (omega arith) t;
+    c = word (3 * i + 2) (omega arith) t;
+  }
+    where
+      word : (j : ℕ) → j < 3 * n → getD (sumWords s (suc n)) j 0 ≡ getD (sumWords s n) j 0
+      word j k = List·getD-append (sumWords s n) (elementWords (runningSum s (suc n))) 0 j (omega (arith, sums-length n))
+
+  latest : (n : ℕ) → elementAt (sumWords s (suc n)) n ≡ runningSum s (suc n)
+  unfolding elementAt sumWords
+  latest n = λ t. record {
+    a = word 0 (3 * n) (omega arith) t;
+    b = word 1 (3 * n + 1) refl t;
+    c = word 2 (3 * n + 2) refl t;
+  }
+    where
+      word : (k j : ℕ) → j ≡ 3 * n + k → getD (sumWords s (suc n)) j 0 ≡ getD (elementWords (runningSum s (suc n))) k 0
+      word k j e =
+          ap (λ (i : ℕ). getD (sumWords s (suc n)) i 0) (e ∙ ap (λ (m : ℕ). m + k) (sym (sums-length n)))
+          ∙ getD-append-add (sumWords s n) (elementWords (runningSum s (suc n))) k 0
+
+  -- "Each row stores the sum so far"
+  pub sums-at : (n i : ℕ) → i < n → elementAt (sumWords s n) i ≡ runningSum s (suc i)
+  sums-at zero i l = absurd (omega arith)
+  sums-at (suc n) i l = below-more _ n (λ j k. earlier n j k ∙ sums-at n j k) (latest n) i (omega arith)
+
+  -- ---- a turn of the loop that stores them, and its end
+  pub sum-turn : (i : ℕ) {sum next : Ext} → sum ≡ runningSum s i → next ≡ addSummand sum (s i) → next ≡ runningSum s (i + 1)
+  unfolding runningSum
+  sum-turn i e f = rw add-one (f ∙ ap (λ (x : Ext). addSummand x (s i)) e)
+
+  pub words-turn : (i : ℕ) (old : List ℕ) {aux after : List ℕ} {next : Ext}
+      → aux ≡ sets old 0 (sumWords s i) → next ≡ runningSum s (i + 1) → after ≡ sets aux (3 * i) (elementWords next)
+      → after ≡ sets old 0 (sumWords s (i + 1))
+  unfolding sumWords
+  words-turn i old {aux} e f g =
+      rw add-one
+      (g ∙ rw (f, add-one i)
+      (sym (sets-then (sumWords s i) (elementWords (runningSum s (suc i))) old aux 0 (3 * i) e (omega (arith, sums-length i)))))
+
+  pub all-words : (n : ℕ) (old : List ℕ) → length old ≡ 3 * n → sets old 0 (sumWords s n) ≡ sumWords s n
+  all-words n old h =
+      let same : length (sumWords s n) ≡ length old = sums-length n ∙ sym h in
+      sets-front (sumWords s n) old (omega arith)
+      ∙ ap (λ (k : ℕ). sumWords s n ++ drop k old) same ∙ ap (λ (r : List ℕ). sumWords s n ++ r) (drop-length old) ∙ append-nil (sumWords s n)

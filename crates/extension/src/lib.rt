@@ -1,0 +1,144 @@
+// Extension: the sum over a table's CopyFlag 1 rows, so far at each row, stored in the aux words. All is judged before the first aux word is
+// written.
+ghost use mathlib.Core.Path.{_≡_};
+ghost use mathlib.Core.Bool.{_&&_};
+ghost use Prim.Native.Nat.{_+_, _*_, _≤_};
+ghost use lib.ListN.{length};
+ghost use lib.Seq.{sets};
+ghost use Rattle.xfield.specs.XFieldElements.{extOf};
+ghost use Rattle.xfield.proofs.Inverses.{invX};
+ghost use Rattle.air.specs.Columns.{auxWidth, rowCount, tableShape, auxShape, allReduced};
+ghost use Rattle.air.specs.Challenges.{challengeWords, challengesShape, rowDenominator};
+ghost use Rattle.air.specs.RunningSum.{addSummand, summandAt, lookupSum};
+ghost use Rattle.layout.specs.Layouts.{rowOf, challengesIn};
+ghost use Rattle.u32_table.specs.Extending.{denominatorOk, denominatorsOk, extendReason, elementWords, sumWords, extendAll};
+ghost use Rattle.extension.specs.Extensions.{summandOf, IsExtended};
+use layout::AuxRow;
+use layout::Challenges;
+use layout::MainRow;
+use words::Judgement;
+use words::Refusal;
+use xfield::XFieldElement;
+
+// The sum over the CopyFlag 1 rows, or why the call is declined.
+pub enum Extended {
+    Sum(XFieldElement),
+    Refused(Refusal),
+}
+
+// Whole rows and not too many, three aux words a row, fifteen challenge words.
+fn have_shapes(table: &[u64], aux: &[u64], challenges: &[u64]) -> bool
+    ensures { λ r. ⌜ r ≡ (tableShape (now (table .entry)) && (auxShape (now (table .entry)) (now (aux .entry)) && challengesShape (now (challenges .entry)))) ⌝ }
+{
+    MainRow::has_shape(table)
+        && (AuxRow::has_shape(table, aux) && Challenges::has_shape(challenges))
+}
+
+// Every word of the table and of the challenges is below p. Old aux words are not looked at.
+fn are_reduced(table: &[u64], challenges: &[u64]) -> bool
+    ensures { λ r. ⌜ r ≡ (allReduced (now (table .entry)) && allReduced (now (challenges .entry))) ⌝ }
+{
+    layout::all_reduced(table) && layout::all_reduced(challenges)
+}
+
+// The inverse of a row's denominator, zero where it has none.
+fn inverse_of_denominator(row: MainRow, challenges: Challenges) -> XFieldElement
+    ensures { λ r. ⌜ extOf r ≡ invX (rowDenominator (challengesIn challenges) (rowOf row)) ⌝ }
+{
+    challenges
+        .denominator(row.lhs, row.rhs, row.ci, row.result)
+        .inverse_or_zero()
+}
+
+// Nothing against a row's denominator: CopyFlag is not 1, or there is an inverse.
+fn denominator_ok(row: MainRow, challenges: Challenges) -> bool
+    ensures { λ r. ⌜ r ≡ denominatorOk (summandOf (challengesIn challenges) (rowOf row)) ⌝ }
+{
+    row.copy_flag.0 != 1 || !inverse_of_denominator(row, challenges).is_zero()
+}
+
+// Nothing against the denominator of any row.
+fn denominators_ok(table: &[u64], challenges: &[u64]) -> bool
+    requires { ⌜ challengeWords ≤ length (now challenges) ⌝ }
+    ensures { λ r. ⌜ r ≡ denominatorsOk (summandAt (now (table .entry)) (now (challenges .entry))) (rowCount (now (table .entry))) ⌝ }
+{
+    let elements = Challenges::from_words(challenges);
+    let rows = table.len() / MainRow::WIDTH;
+    let mut judged: usize = 0;
+    while judged < rows {
+        if !denominator_ok(MainRow::at(table, judged), elements) {
+            return false;
+        }
+        judged += 1;
+    }
+    true
+}
+
+// Reasons 1, 8 and 9, in this order.
+fn judge(table: &[u64], aux: &[u64], challenges: &[u64]) -> Judgement
+    ensures { λ r. ⌜ r ≡ extendReason (now (table .entry)) (now (aux .entry)) (now (challenges .entry)) ⌝ }
+{
+    let shapes = have_shapes(table, aux, challenges);
+    let reduced = are_reduced(table, challenges);
+    if !shapes {
+        return Judgement::Declined(Refusal::Shape);
+    }
+    if !reduced {
+        return Judgement::Declined(Refusal::Unreduced);
+    }
+    if !denominators_ok(table, challenges) {
+        return Judgement::Declined(Refusal::Flat);
+    }
+    Judgement::Fine
+}
+
+// The sum with what a row adds to it: where CopyFlag is 1, its multiplicity times the inverse of its denominator.
+fn add_row(sum: XFieldElement, row: MainRow, challenges: Challenges) -> XFieldElement
+    ensures { λ r. ⌜ extOf r ≡ addSummand (extOf sum) (summandOf (challengesIn challenges) (rowOf row)) ⌝ }
+{
+    if row.copy_flag.0 == 1 {
+        sum.add(inverse_of_denominator(row, challenges).scale(row.lookup_multiplicity))
+    } else {
+        sum
+    }
+}
+
+// Stores a sum as row i of the aux words.
+fn put_sum(aux: &mut [u64], i: usize, sum: XFieldElement)
+    requires { ⌜ auxWidth * i + auxWidth ≤ length (now aux) ⌝ }
+    ensures { λ _. ⌜ now (aux .exit) ≡ sets (now (aux .entry)) (auxWidth * i) (elementWords (extOf sum)) ⌝ }
+{
+    let k = AuxRow::WIDTH * i;
+    aux[k] = sum.0.0;
+    aux[k + 1] = sum.1.0;
+    aux[k + 2] = sum.2.0;
+}
+
+// Each row stores the sum so far; the last sum comes back.
+fn write_sums(table: &[u64], aux: &mut [u64], challenges: &[u64]) -> XFieldElement
+    requires { ⌜ (length (now aux) ≡ auxWidth * rowCount (now table)) × (challengeWords ≤ length (now challenges)) ⌝ }
+    ensures last { λ r. ⌜ extOf r ≡ lookupSum (now (table .entry)) (now (challenges .entry)) ⌝ }
+    ensures sums { λ _. ⌜ now (aux .exit) ≡ sumWords (summandAt (now (table .entry)) (now (challenges .entry))) (rowCount (now (table .entry))) ⌝ }
+{
+    let elements = Challenges::from_words(challenges);
+    let rows = table.len() / MainRow::WIDTH;
+    let mut sum = XFieldElement::ZERO;
+    let mut written: usize = 0;
+    while written < rows {
+        let next = add_row(sum, MainRow::at(table, written), elements);
+        put_sum(aux, written, next);
+        sum = next;
+        written += 1;
+    }
+    sum
+}
+
+// Each row's aux words become the sum so far, and the answer is the last sum, zero for no rows.
+pub fn extend(table: &[u64], aux: &mut [u64], challenges: &[u64]) -> Extended
+    ensures { λ r. ⌜ IsExtended (extendAll (now (table .entry)) (now (aux .entry)) (now (challenges .entry))) r (now (aux .exit)) ⌝ }
+{
+    match judge(table, aux, challenges) {
+        Judgement::Declined(reason) => Extended::Refused(reason),
+        Judgement::Fine => Extended::Sum(write_sums(table, aux, challenges)),
+    }
+}

@@ -1,0 +1,11 @@
+pub mod Products
+pub mod Results
+pub mod HonestRows
+pub mod Steps
+pub mod RowLists
+pub mod Sections
+pub mod Tables
+pub mod Sums
+pub mod Calls
+pub mod FourCalls
+pub mod Examples

@@ -1,0 +1,2 @@
+pub mod FourCalls
+pub mod Examples

@@ -1,0 +1,4 @@
+pub mod Filling
+pub mod Padding
+pub mod Extending
+pub mod PendingRows

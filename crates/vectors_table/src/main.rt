@@ -1,0 +1,191 @@
+// Runs the stored vectors of filling, padding and extension. Standard input has a call a line (tools/vectors.py) with the arrays before and
+// after it; what is printed is how many calls of each kind answered what, and how many differ in an answer or a word.
+use aet::Sizes;
+use extension::Extended;
+use libc::STDIN_FILENO;
+use u32_table::Filled;
+use u32_table::Padded;
+use vectors::part;
+use vectors::part_mut;
+use vectors::print_tally;
+use vectors::same_words;
+use vectors::tally;
+
+// An array in a buffer: how many of its words, and the place in the text after it.
+struct Taken {
+    length: usize,
+    next: usize,
+}
+
+fn take(text: &[u8], from: usize, buffer: &mut [u64]) -> Taken {
+    let count = vectors::number(text, from);
+    let length = vectors::within(count.value, buffer.len());
+    let next = vectors::numbers(text, count.next, buffer, length);
+    Taken { length, next }
+}
+
+// What a call answered: document 01's number, and a value.
+struct Got {
+    number: u64,
+    value: u64,
+}
+
+fn filled(answer: Filled) -> Got {
+    match answer {
+        Filled::Rows(height) => Got {
+            number: 0,
+            value: height,
+        },
+        Filled::Refused(reason) => Got {
+            number: reason.number(),
+            value: 0,
+        },
+    }
+}
+
+fn padded(answer: Padded) -> u64 {
+    match answer {
+        Padded::Done => 0,
+        Padded::Refused(reason) => reason.number(),
+    }
+}
+
+// An extension's answer: document 01's number, and the three words of the sum.
+fn extended(answer: Extended) -> [u64; 4] {
+    match answer {
+        Extended::Sum(sum) => [0, sum.0.0, sum.1.0, sum.2.0],
+        Extended::Refused(reason) => [reason.number(), 0, 0, 0],
+    }
+}
+
+// Whether the words of a table are those that come next in the text.
+fn table_is(text: &[u8], from: usize, table: &[u64], length: usize) -> bool {
+    let mut wanted = [0u64; 1024];
+    vectors::numbers(text, from, &mut wanted, length);
+    same_words(table, &wanted, length)
+}
+
+fn both(a: bool, b: bool) -> bool {
+    if a { b } else { false }
+}
+
+// ---- fill: a list, a table; number and height; the table after it
+fn fill(text: &[u8], from: usize, counts: &mut [u64; 512]) -> usize {
+    let mut keys = [0u64; 64];
+    let mut multiplicities = [0u64; 64];
+    let mut table = [0u64; 1024];
+    let capacity = vectors::number(text, from);
+    let used = vectors::number(text, capacity.next);
+    let k = take(text, used.next, &mut keys);
+    let m = take(text, k.next, &mut multiplicities);
+    let t = take(text, m.next, &mut table);
+    let sizes = Sizes {
+        capacity: capacity.value as usize,
+        used: used.value as usize,
+    };
+    let got = filled(u32_table::fill(
+        sizes,
+        part(&keys, k.length),
+        part(&multiplicities, m.length),
+        part_mut(&mut table, t.length),
+    ));
+    note_fill(text, t.next, got, &table, t.length, counts)
+}
+
+// Notes a filling whose answer and words are wanted next in the text; answers the place after them.
+fn note_fill(
+    text: &[u8],
+    from: usize,
+    got: Got,
+    table: &[u64],
+    length: usize,
+    counts: &mut [u64; 512],
+) -> usize {
+    let number = vectors::number(text, from);
+    let value = vectors::number(text, number.next);
+    let answer = both(got.number == number.value, got.value == value.value);
+    let words = table_is(text, value.next, table, length);
+    tally(counts, 1, got.number, both(answer, words));
+    vectors::skip(text, value.next, length)
+}
+
+// ---- pad: a table, the filled count; number; the table after it
+fn pad(text: &[u8], from: usize, counts: &mut [u64; 512]) -> usize {
+    let mut table = [0u64; 1024];
+    let t = take(text, from, &mut table);
+    let count = vectors::number(text, t.next);
+    let number = padded(u32_table::pad(part_mut(&mut table, t.length), count.value as usize));
+    let wanted = vectors::number(text, count.next);
+    let words = table_is(text, wanted.next, &table, t.length);
+    tally(counts, 2, number, both(number == wanted.value, words));
+    vectors::skip(text, wanted.next, t.length)
+}
+
+// ---- extend: a table, aux, challenges; number and three words; aux after it
+fn extend(text: &[u8], from: usize, counts: &mut [u64; 512]) -> usize {
+    let mut table = [0u64; 1024];
+    let mut aux = [0u64; 1024];
+    let mut challenges = [0u64; 32];
+    let t = take(text, from, &mut table);
+    let a = take(text, t.next, &mut aux);
+    let c = take(text, a.next, &mut challenges);
+    let got = extended(extension::extend(
+        part(&table, t.length),
+        part_mut(&mut aux, a.length),
+        part(&challenges, c.length),
+    ));
+    note_extend(text, c.next, &got, &aux, a.length, counts)
+}
+
+// Notes an extension whose answer and words are wanted next in the text; answers the place after them.
+fn note_extend(
+    text: &[u8],
+    from: usize,
+    got: &[u64; 4],
+    aux: &[u64],
+    length: usize,
+    counts: &mut [u64; 512],
+) -> usize {
+    let mut wanted = [0u64; 4];
+    let next = vectors::numbers(text, from, &mut wanted, 4);
+    let answer = same_words(got, &wanted, 4);
+    let words = table_is(text, next, aux, length);
+    tally(counts, 3, got[0], both(answer, words));
+    vectors::skip(text, next, length)
+}
+
+// Runs the lines, at most a hundred thousand of them.
+fn run(text: &[u8], counts: &mut [u64; 512]) {
+    let mut at: usize = 0;
+    let mut lines: usize = 0;
+    while lines < 100000 {
+        let kind = vectors::number(text, at);
+        let next = kind.next;
+        let which = kind.value;
+        match which {
+            1 => {
+                at = fill(text, next, counts);
+            }
+            2 => {
+                at = pad(text, next, counts);
+            }
+            3 => {
+                at = extend(text, next, counts);
+            }
+            _ => {
+                return;
+            }
+        }
+        lines += 1;
+    }
+}
+
+fn main() {
+    let mut text = [0u8; 589824];
+    let n = io::read_full(STDIN_FILENO, &mut text);
+    let mut counts = [0u64; 512];
+    run(&text[..n], &mut counts);
+    print_tally(b"fill", &counts, 1);
+    print_tally(b"pad", &counts, 2);
+    print_tally(b"extend", &counts, 3);
+}
