@@ -165,7 +165,7 @@ module _ {l : U32List} {table : List ℕ} {height : ℕ} (f : Filled l table hei
   final-chain : Chain front (finalRows f)
   final-chain = padded-chain l (sectionPlaces l) (f .sections) (rowCount table - height)
 
-  padded-rows : rowCount padded ≡ rowCount table
+  pub padded-rows : rowCount padded ≡ rowCount table
   padded-rows = ap (λ (ws : List ℕ). rowCount ws) (padded-is f) ∙ words-rows (finalRows f) ∙ final-count f
 
   padded-shape : tableShape padded ≡ true

@@ -8,4 +8,5 @@ pub mod Tables
 pub mod Sums
 pub mod Calls
 pub mod FourCalls
+pub mod Runs
 pub mod Examples

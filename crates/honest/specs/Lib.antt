@@ -1,2 +1,3 @@
 pub mod FourCalls
+pub mod Run
 pub mod Examples
