@@ -1,10 +1,11 @@
 #!/usr/bin/env python3
-"""Makes calls of fill, pad and extend on lists of all six instructions, with the words that the original Rust leaves.
+"""Makes calls of fill, pad and extend, and whole runs, on lists of all six instructions, with the words that the original Rust leaves.
 
     tools/filled_tables.py ORACLE > tests/vectors/filled-tables.jsonl
 
 ORACLE is the built program of oracle/ (oracle/README.md). Each line is a call in the form of the stored vectors. Tables hold other words
-before the call; each list is filled into as many rows as its height, into one fewer, which is refused, and into more.
+before the call; each list is filled into as many rows as its height, into one fewer, which is refused, and into more. A run is fill, pad,
+extend and check in a row; some are refused by fill or by extend, and what the calls before have written stays.
 """
 import json
 import sys
@@ -66,6 +67,27 @@ def extends(oracle, rows):
     say("extend", numbers, ["ok", text(sums[-1])], {"aux": text(w for s in sums for w in s)})
 
 
+def run_call(entries, height, challenges, answer, table, aux):
+    before = dict(a_list(entries), table=text(old_words(10 * height)), aux=text(old_words(3 * height)), challenges=text(challenges))
+    say("run", before, answer, {"table": text(table), "aux": text(aux)})
+
+
+def runs(oracle, entries, padding):
+    rows = ask(oracle, "fill", [w for e in entries for w in e])
+    height = len(rows) + padding
+    table = [w for r in rows for w in r] + [0] * (10 * padding)
+    padded = ask(oracle, "pad", [len(rows)] + table)
+    words = [w for r in padded for w in r]
+    sums = [w for s in ask(oracle, "extend", CHALLENGES + words) for w in s]
+    run_call(entries, height, CHALLENGES, ["ok", "zero"], words, sums)
+    run_call(entries, height, CHALLENGES[:14] + [P], ["refused", "8"], words, old_words(3 * height))
+    run_call(entries, height, [0] * 15, ["refused", "9"], words, old_words(3 * height))
+    if rows:
+        run_call(entries, len(rows) - 1, CHALLENGES, ["refused", "7"], old_words(10 * len(rows) - 10), old_words(3 * len(rows) - 3))
+
+
+ALL_SIX = [(SPLIT, 5, 6, 1), (LT, 2, 3, 2), (AND, 12, 10, 3), (LOG, 9, 0, 4), (POW, 3, 5, 5), (POP, 13, 0, 6)]
+
 LISTS = [
     [(LT, 0, 0, 1)],
     [(LT, 3, 3, 0)],
@@ -85,7 +107,7 @@ LISTS = [
     [(POP, 2**16 + 1, 2**20, 1)],
     [(SPLIT, 0, 0, 4)],
     [(SPLIT, 1, 2**32 - 2, 4)],
-    [(SPLIT, 5, 6, 1), (LT, 2, 3, 2), (AND, 12, 10, 3), (LOG, 9, 0, 4), (POW, 3, 5, 5), (POP, 13, 0, 6)],
+    ALL_SIX,
     [(LT, 1, 2, 1), (LT, 1, 2, 5), (POW, 7, 1, 0), (LT, 0, 0, 1)],
 ]
 
@@ -97,6 +119,11 @@ def main(oracle):
             rows = pads(oracle, rows, len(rows) + 3)
             extends(oracle, rows)
     pads(oracle, [], 2)
+    for entries in LISTS:
+        if len(ask(oracle, "fill", [w for e in entries for w in e])) < 6:
+            runs(oracle, entries, 0)
+    runs(oracle, ALL_SIX, 3)
+    runs(oracle, LISTS[0], 2)
 
 
 if __name__ == "__main__":

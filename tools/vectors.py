@@ -251,6 +251,7 @@ def checks(calls):
 # kind 1, fill: list, table; answer with the height; table after it
 # kind 2, pad: table, filled count; answer; table after it
 # kind 3, extend: table, aux, challenges; answer with three words; aux after it
+# kind 4, run: list, table, aux, challenges; answer, 0 for zero; table and aux after it
 def table_line(call):
     numbers, after = call["in"], call["after"]
     which = call["call"]
@@ -262,6 +263,10 @@ def table_line(call):
     if which == "extend":
         arrays = [array(ints(numbers[k])) for k in ("table", "aux", "challenges")]
         line(3, *arrays, answer_of(call, 3), ints(after["aux"]))
+    if which == "run":
+        arrays = [array(ints(numbers[k])) for k in ("table", "aux", "challenges")]
+        number = 0 if call["answer"] == ["ok", "zero"] else int(call["answer"][1])
+        line(4, a_list(numbers), *arrays, number, ints(after["table"]), ints(after["aux"]))
 
 
 def tables(calls):

@@ -1,6 +1,7 @@
-// Runs the stored vectors of filling, padding and extension. Standard input has a call a line (tools/vectors.py) with the arrays before and
+// Runs the stored vectors of filling, padding and extension, and of the four calls in a row. Standard input has a call a line (tools/vectors.py) with the arrays before and
 // after it; what is printed is how many calls of each kind answered what, and how many differ in an answer or a word.
 use aet::Sizes;
+use checker::Verdict;
 use extension::Extended;
 use libc::STDIN_FILENO;
 use u32_table::Filled;
@@ -55,6 +56,15 @@ fn extended(answer: Extended) -> [u64; 4] {
     match answer {
         Extended::Sum(sum) => [0, sum.0.0, sum.1.0, sum.2.0],
         Extended::Refused(reason) => [reason.number(), 0, 0, 0],
+    }
+}
+
+// A run's answer: 0 where the check found every constraint zero, 14 where it found one that is not, else the reason's number.
+fn ran(answer: Verdict) -> u64 {
+    match answer {
+        Verdict::Zero => 0,
+        Verdict::Nonzero(_, _, _, _) => 14,
+        Verdict::Refused(reason) => reason.number(),
     }
 }
 
@@ -154,6 +164,64 @@ fn note_extend(
     vectors::skip(text, next, length)
 }
 
+// ---- run: a list, a table, aux, challenges; number; table and aux after it
+fn whole_run(text: &[u8], from: usize, counts: &mut [u64; 512]) -> usize {
+    let mut keys = [0u64; 64];
+    let mut multiplicities = [0u64; 64];
+    let mut table = [0u64; 1024];
+    let mut aux = [0u64; 1024];
+    let mut challenges = [0u64; 32];
+    let capacity = vectors::number(text, from);
+    let used = vectors::number(text, capacity.next);
+    let k = take(text, used.next, &mut keys);
+    let m = take(text, k.next, &mut multiplicities);
+    let t = take(text, m.next, &mut table);
+    let a = take(text, t.next, &mut aux);
+    let c = take(text, a.next, &mut challenges);
+    let sizes = Sizes {
+        capacity: capacity.value as usize,
+        used: used.value as usize,
+    };
+    let number = ran(honest::run(
+        sizes,
+        part(&keys, k.length),
+        part(&multiplicities, m.length),
+        part_mut(&mut table, t.length),
+        part_mut(&mut aux, a.length),
+        part(&challenges, c.length),
+    ));
+    note_run(
+        text,
+        c.next,
+        number,
+        &table,
+        t.length,
+        &aux,
+        a.length,
+        counts,
+    )
+}
+
+// Notes a run whose answer and words are wanted next in the text; answers the place after them.
+fn note_run(
+    text: &[u8],
+    from: usize,
+    number: u64,
+    table: &[u64],
+    length: usize,
+    aux: &[u64],
+    aux_length: usize,
+    counts: &mut [u64; 512],
+) -> usize {
+    let wanted = vectors::number(text, from);
+    let table_words = table_is(text, wanted.next, table, length);
+    let next = vectors::skip(text, wanted.next, length);
+    let aux_words = table_is(text, next, aux, aux_length);
+    let same = both(number == wanted.value, both(table_words, aux_words));
+    tally(counts, 4, number, same);
+    vectors::skip(text, next, aux_length)
+}
+
 // Runs the lines, at most a hundred thousand of them.
 fn run(text: &[u8], counts: &mut [u64; 512]) {
     let mut at: usize = 0;
@@ -172,6 +240,9 @@ fn run(text: &[u8], counts: &mut [u64; 512]) {
             3 => {
                 at = extend(text, next, counts);
             }
+            4 => {
+                at = whole_run(text, next, counts);
+            }
             _ => {
                 return;
             }
@@ -188,4 +259,5 @@ fn main() {
     print_tally(b"fill", &counts, 1);
     print_tally(b"pad", &counts, 2);
     print_tally(b"extend", &counts, 3);
+    print_tally(b"run", &counts, 4);
 }

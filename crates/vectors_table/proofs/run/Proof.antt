@@ -25,6 +25,9 @@ pad-requires c κs = search needs
 extend-requires : tie.Need-extend-requires Inv-loop μ-loop
 extend-requires c κs = search needs
 
+whole-run-requires : tie.Need-whole-run-requires Inv-loop μ-loop
+whole-run-requires c κs = search needs
+
 returns : tie.Need-returns Inv-loop μ-loop
 returns c = search needs
 
@@ -51,6 +54,7 @@ run-spec =
     fill-requires
     pad-requires
     extend-requires
+    whole-run-requires
     returns
     add-lines
     loop-less
