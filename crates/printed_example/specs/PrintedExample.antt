@@ -1,0 +1,33 @@
+-- The printed example (document 01, "Recording and stored lists"): "For Indeterminate (1, 0, 0), weights zero, and the one entry and 3, 1 with
+-- multiplicity 2 it prints" what follows there.
+use Prim.Native.Nat.{ℕ}
+use mathlib.Core.List.{List, [], _∷_, _++_}
+use lib.ListN.{replicate}
+use Rattle.text.specs.Lines.{ascii}
+
+-- fifteen challenge words, the first of them 1
+abbrev pub challengeBytes : List ℕ
+challengeBytes = 1 ∷ replicate 119 0
+
+-- N and height; opcode, LHS, RHS; multiplicity
+abbrev pub storedList : List ℕ
+storedList =
+    1 ∷ 0 ∷ 0 ∷ 0
+    ∷ 3 ∷ 0 ∷ 0 ∷ 0
+    ∷ 14
+    ∷ 3 ∷ 0 ∷ 0 ∷ 0 ∷ 0 ∷ 0 ∷ 0 ∷ 0
+    ∷ 1 ∷ 0 ∷ 0 ∷ 0 ∷ 0 ∷ 0 ∷ 0 ∷ 0
+    ∷ 2 ∷ 0 ∷ 0 ∷ 0 ∷ []
+
+abbrev pub input : List ℕ
+input = challengeBytes ++ storedList
+
+abbrev pub printed : List ℕ
+printed =
+    ascii "entries 1 rows 3 padded 4\n"
+    ++ ascii "1 0 15651782846776010939 14 3 12297829379609722881 1 1 1 2\n"
+    ++ ascii "0 1 576460752169205760 14 1 1 0 0 0 0\n"
+    ++ ascii "0 2 7140675123644355221 14 0 0 0 0 0 0\n"
+    ++ ascii "0 0 15651782846776010939 14 0 0 0 0 0 0\n"
+    ++ ascii "sum 2 0 0\n"
+    ++ ascii "zero\n"

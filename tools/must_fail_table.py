@@ -1,0 +1,90 @@
+#!/usr/bin/env python3
+"""Makes docs/MUST-FAIL.md: each must-fail edit, what wrong program it makes, and the fact that fails first.
+
+    rt must-fail && tools/must_fail_table.py > docs/MUST-FAIL.md
+
+Reads the edits' own comments and what the prover said of each (target/must-fail). Ends with status 1 where an edit was not tried, and where its
+first error shows only that the proof no longer fits the code (a name that is not there), which says nothing of the contract.
+"""
+import pathlib
+import re
+import sys
+
+ROOT = pathlib.Path(__file__).resolve().parent.parent
+# first errors that show nothing
+SHAPE_ONLY = ("that can be named from here", "is not in scope")
+
+HEAD = """# Must-fail edits
+
+Each line is a wrong program that the prover refuses, and the fact that fails first. An edit keeps the code's shape, so what fails is a fact and not
+the fit of a proof. The gate tries every one and fails if the prover accepts it. Made by `tools/must_fail_table.py` after `rt must-fail`.
+
+A fact is named by its proof: *function*: `returns` is that what the function ensures holds where it returns, `loop-again` that a loop keeps its
+invariant, `NAME-requires` that what NAME requires holds where it is called; any other name is a lemma's.
+"""
+
+
+def comment(edit):
+    words = []
+    for line in edit.read_text().splitlines():
+        if not line.startswith("#"):
+            break
+        words.append(line[1:].strip())
+    return " ".join(words)
+
+
+def first_error(log, folder):
+    """The file, the declaration and the message of the first error."""
+    for line in log.read_text().splitlines():
+        found = re.match(r"(?:note: )?(\S+?):\d+:\d+: error: (.*)", line)
+        if found:
+            path, message = found.groups()
+            named = re.match(r"`([^`]+)`: (.*)", message)
+            place = path.split(folder + "/", 1)[-1]
+            return place, named.group(1) if named else "", named.group(2) if named else message
+        found = re.match(r"note: (\S+?):\d+:\d+: (it is not proved that .*?)(?: \(`([^`]+)`\))?$", line)
+        if found:
+            return found.group(1).split(folder + "/", 1)[-1], found.group(3) or "", found.group(2)
+    return None
+
+
+def fact(place, name):
+    """The fact in words: the function's or the module's name and the declaration."""
+    parts = place.split("/")
+    if parts[-1] == "Proof.antt":
+        return f"*{'::'.join(parts[1:-1])}*: `{name}`"
+    if parts[0] == "src":
+        return f"`{place}`" + (f": `{name}`" if name else "")
+    return f"`{'/'.join(parts)}`: `{name}`" if name else f"`{place}`"
+
+
+def main():
+    bad = []
+    out = [HEAD]
+    count = 0
+    order = [l.split(":")[0].strip() for l in (ROOT / "crates.txt").read_text().splitlines() if ":" in l and not l.startswith("#")]
+    for crate in order:
+        edits = sorted((ROOT / "crates" / crate / "must-fail").glob("*.edit"))
+        if not edits:
+            continue
+        out.append(f"## {crate}\n\n| edit | the wrong program | the fact that fails |\n|---|---|---|")
+        for edit in edits:
+            log = ROOT / "target" / "must-fail" / crate / edit.stem / ".log"
+            error = first_error(log, f"must-fail/{crate}/{edit.stem}") if log.is_file() else None
+            if error is None:
+                bad.append(f"{crate}/{edit.stem}: not tried, or no error found")
+                continue
+            place, name, message = error
+            if any(words in message for words in SHAPE_ONLY):
+                bad.append(f"{crate}/{edit.stem}: {message[:100]}")
+            count += 1
+            out.append(f"| {edit.stem} | {comment(edit)} | {fact(place, name)} |")
+        out.append("")
+    out.append(f"{count} edits.")
+    print("\n".join(out))
+    for line in bad:
+        print(line, file=sys.stderr)
+    return 1 if bad else 0
+
+
+sys.exit(main())
