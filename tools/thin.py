@@ -96,8 +96,8 @@ def nth(value, i):
     return value + ' .1' * i + ' .0'
 
 
-def thin(crate, function, core, sizes, answer, recording, slices, numbers, uses, promise):
-    """The text of the proof. `slices` is how many there are, `numbers` names the numbers, `uses` are the lines that bring what `promise`
+def thin(crate, function, core, home, sizes, answer, recording, slices, numbers, uses, promise):
+    """The text of the proof. `home` is the crate that declares the record of the sizes, `slices` is how many there are, `numbers` names the numbers, `uses` are the lines that bring what `promise`
     names, and `promise(z, lists, numbers, answer, z_after, lists_after)` is what both contracts say."""
     kebab = function.replace('_', '-')
     mine = [str(i + 1) for i in range(slices)]
@@ -120,12 +120,13 @@ def thin(crate, function, core, sizes, answer, recording, slices, numbers, uses,
     out = []
     put = out.append
     put(HEADER.format(crate=crate, function=function, core=core) + USES)
-    for type_ in (sizes, answer, recording):
+    put(f'use Rattle.{home}.specs.declared.{sizes}.{{{sizes}}}')
+    for type_ in (answer, recording):
         put(f'use {declared}{type_}.{{{type_}}}')
     put(uses)
-    for type_, name in ((sizes, 'S'), (answer, 'E'), (recording, 'G')):
-        put(f'use {proofs}{type_} as {name}')
-        put(f'use {proofs}{type_}.Laws as {name}′')
+    for place, name in ((f'Rattle.{home}.proofs.{sizes}', 'S'), (proofs + answer, 'E'), (proofs + recording, 'G')):
+        put(f'use {place} as {name}')
+        put(f'use {place}.Laws as {name}′')
     put(f'use {proofs}{core} as core')
     put(f'use {proofs}{core}.Symbol as core-def')
     put(f'use {proofs}{core}.Symbol.{{name as #core}}')
@@ -404,9 +405,9 @@ def recorded(z, lists, numbers, answer, z_after, lists_after):
 
 FUNCTIONS = [
     dict(crate='aet', function='record_u32_table_entry', core='record_u32_table_entry_by_value',
-         sizes='Sizes', answer='Recorded', recording='Recording', slices=2, numbers=['opcode', 'lhs', 'rhs'],
+         home='lists', sizes='Sizes', answer='Recorded', recording='Recording', slices=2, numbers=['opcode', 'lhs', 'rhs'],
          uses='use Rattle.isa.specs.Entries.{entry}\n'
-              'use Rattle.aet.specs.Lists.{u32List}\n'
+              'use Rattle.lists.specs.Lists.{u32List}\n'
               'use Rattle.aet.specs.Recording.{recordAll, IsRecorded}',
          promise=recorded),
 ]

@@ -2,13 +2,14 @@
 """Turns stored vectors into the number files that the vectors_* programs run.
 
     tools/vectors.py CALLS.jsonl field > crates/vectors_field/stdin
-    tools/vectors.py CALLS.jsonl lists > crates/vectors_lists/stdin
+    tools/vectors.py CALLS.jsonl lists tests/vectors/recorded-lists.jsonl > crates/vectors_lists/stdin
     tools/vectors.py CALLS.jsonl tables tests/vectors/filled-tables.jsonl > crates/vectors_table/stdin
     tools/vectors.py CALLS.jsonl checks tests/vectors/named-tables.jsonl > crates/vectors_check/stdin
 
-A second file of the same form is read after the first. CALLS.jsonl has single calls of document 01 with their answer and every array after the call, one JSON object a line. What the vectors
-leave out, and edges, are added here; their answers are computed by the few lines of arithmetic below, which share nothing with the
-library. A number file is decimal numbers; the first of each line is the kind of the line.
+CALLS.jsonl has single calls of document 01 with their answer and every array after the call, one JSON object a line. A second file of the
+same form is read after it: those in tests/vectors have the original Rust's answers (tools/filled_tables.py, tools/named_tables.py and
+tools/recorded_lists.py make them). What the vectors leave out, and edges, are added here; their answers are computed by the few lines of
+arithmetic below, which share nothing with the library. A number file is decimal numbers; the first of each line is the kind of the line.
 """
 import json
 import sys

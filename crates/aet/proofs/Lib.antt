@@ -1,4 +1,2 @@
 pub mod PaddedHeight
-pub mod JudgedLists
-pub mod Finding
 pub mod RecordingCases

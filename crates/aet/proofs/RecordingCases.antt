@@ -13,8 +13,9 @@ use Rattle.words.specs.declared.Refusal.the-variants.{CountFull, ListFull}
 use Rattle.words.proofs.Judgements.{or-next, or-first}
 use Rattle.isa.specs.declared.U32TableEntry.{U32TableEntry}
 use Rattle.isa.specs.Entries.{judgeEntry, admitted}
-use Rattle.aet.specs.Lists.{U32List, capacity, used, multiplicityAt, listShape, countFull}
-use Rattle.aet.specs.Recording.{findKey, recordReason, raised, appended, recordAll}
+use Rattle.lists.specs.Lists.{U32List, capacity, used, multiplicityAt, listShape, countFull}
+use Rattle.lists.specs.Keys.{findKey}
+use Rattle.aet.specs.Recording.{recordReason, raised, appended, recordAll}
 
 module _ (l : U32List) (e : U32TableEntry) where
   pub record-declined : {k : Refusal} → recordReason l e ≡ Declined k → recordAll l e ≡ record { answer = declined k; list = l }

@@ -1,3 +1,2 @@
-pub mod Lists
 pub mod Heights
 pub mod Recording

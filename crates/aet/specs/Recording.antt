@@ -1,10 +1,10 @@
 -- Recording (document 01, "Recording and stored lists"): "The first equal key gains one; else the key is appended with 1; the answer is the
 -- key's position, from 0."
-use Prim.Native.Nat.{ℕ, zero, suc, _+_, _*_}
+use Prim.Native.Nat.{ℕ, _+_, _*_}
 use mathlib.Core.Path.{_≡_}
-use mathlib.Core.Bool.{Bool, cond, not, _&&_}
+use mathlib.Core.Bool.{Bool, cond, not}
 use mathlib.Core.List.{[], _∷_}
-use lib.Dec.{eqb, ltb}
+use lib.Dec.{ltb}
 use lib.ListN.{set}
 use lib.Seq.{sets}
 use Rattle.words.specs.Answers.{Answer, done, declined}
@@ -14,22 +14,10 @@ use Rattle.words.specs.declared.Judgement.the-variants.{Fine, Declined}
 use Rattle.words.specs.declared.Refusal.the-variants.{CountFull, ListFull}
 use Rattle.isa.specs.declared.U32TableEntry.{U32TableEntry}
 use Rattle.isa.specs.Entries.{lhs, rhs, judgeEntry, admitted}
-use Rattle.aet.specs.Lists.{U32List, u32List, capacity, used, keyAt, multiplicityAt, listShape, countFull}
+use Rattle.lists.specs.Lists.{U32List, u32List, capacity, used, multiplicityAt, listShape, countFull}
+use Rattle.lists.specs.Keys.{findKey}
 use Rattle.aet.specs.declared.Recorded.{Recorded}
 use Rattle.aet.specs.declared.Recorded.the-variants.{At, Refused}
-
--- equal keys have equal words
-unfoldable pub sameKey : U32TableEntry → U32TableEntry → Bool
-sameKey a b = eqb (a .opcode) (b .opcode) && (eqb (lhs a) (lhs b) && eqb (rhs a) (rhs b))
-
--- the first of the n places from i on that holds the key, or i + n
-unfoldable pub findFrom : U32List → U32TableEntry → ℕ → ℕ → ℕ
-findFrom l e i zero = i
-findFrom l e i (suc n) = cond (sameKey (keyAt l i) e) i (findFrom l e (suc i) n)
-
--- the first used place that holds the key, or `used` where none does
-unfoldable pub findKey : U32List → U32TableEntry → ℕ
-findKey l e = findFrom l e 0 (used l)
 
 abbrev pub known : U32List → U32TableEntry → Bool
 known l e = ltb (findKey l e) (used l)

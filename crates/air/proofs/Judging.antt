@@ -10,10 +10,10 @@ use borrow.Author.Tests.{eqb-false}
 use Rattle.words.specs.declared.Refusal.the-variants.{Shape, Short, Unreduced}
 use Rattle.words.specs.declared.Judgement.the-variants.{Fine}
 use Rattle.words.proofs.Judgements.{or-both, decline-fine, decline-not-fine}
-use Rattle.air.specs.Columns.{rowCount, auxWidth, tableShape, auxShape, allReduced}
-use Rattle.air.specs.Challenges.{challengeWords, challengesShape}
+use Rattle.air.specs.Columns.{rowCount, auxWidth, allReduced}
+use Rattle.air.specs.Challenges.{challengeWords}
 use Rattle.air.specs.Check.{judgeCheck}
-use Rattle.air.proofs.Rows.{TableShape, table-shape, aux-shape, challenges-shape}
+use Rattle.air.proofs.Rows.{TableShape, shaped}
 
 pub record Accepted (table aux challenges : List ℕ) : Type 0 where
   pub table-is-whole : TableShape table
@@ -29,15 +29,14 @@ unfolding judgeCheck
 accepted table aux challenges h =
     let one = or-both _ _ h in
     let seven = or-both _ _ (one .1) in
-    let shapes = and-eq-true-iff (tableShape table) (auxShape table aux && challengesShape challenges) .0 (decline-not-fine _ Shape (one .0)) in
-    let arrays = and-eq-true-iff (auxShape table aux) (challengesShape challenges) .0 (shapes .1) in
+    let shapes = shaped table aux challenges (decline-not-fine _ Shape (one .0)) in
     let words = and-eq-true-iff (allReduced table) (allReduced challenges && allReduced aux) .0 (decline-not-fine _ Unreduced (seven .1)) in
     let others = and-eq-true-iff (allReduced challenges) (allReduced aux) .0 (words .1) in
     let rows = eqb-false (rowCount table) 0 (decline-fine (eqb (rowCount table) 0) Short (seven .0)) in
     record {
-      table-is-whole = table-shape table (shapes .0);
-      aux-length = aux-shape table aux (arrays .0);
-      challenges-length = challenges-shape challenges (arrays .1);
+      table-is-whole = shapes .table-is-whole;
+      aux-length = shapes .aux-length;
+      challenges-length = shapes .challenges-length;
       some-row = omega arith;
       table-reduced = words .0;
       challenges-reduced = others .0;

@@ -2,7 +2,7 @@
 -- Assumes nothing.
 use Prim.Native.Nat.{ℕ, zero, suc, _+_, _*_, _%_, _<_, _≤_}
 use mathlib.Core.Path.{_≡_, refl}
-use mathlib.Core.Bool.{true, not, and-eq-true-iff}
+use mathlib.Core.Bool.{true, not, _&&_, and-eq-true-iff}
 use mathlib.Core.List.{List, [], _∷_}
 use native.Mathlib.Omega.{arith}
 use lib.Dec.{ltb, eqb}
@@ -33,6 +33,25 @@ aux-shape table aux h = eqb-true (length aux) (auxWidth * rowCount table) h
 pub challenges-shape : (challenges : List ℕ) → challengesShape challenges ≡ true → length challenges ≡ challengeWords
 unfolding challengesShape
 challenges-shape challenges h = eqb-true (length challenges) challengeWords h
+
+-- the shapes of the three arrays that extend and the check are given
+pub record Shaped (table aux challenges : List ℕ) : Type 0 where
+  pub table-is-whole : TableShape table
+  pub aux-length : length aux ≡ auxWidth * rowCount table
+  pub challenges-right : challengesShape challenges ≡ true
+  pub challenges-length : length challenges ≡ challengeWords
+
+pub shaped : (table aux challenges : List ℕ) → (tableShape table && (auxShape table aux && challengesShape challenges)) ≡ true
+    → Shaped table aux challenges
+shaped table aux challenges h =
+    let parts = and-eq-true-iff (tableShape table) (auxShape table aux && challengesShape challenges) .0 h in
+    let arrays = and-eq-true-iff (auxShape table aux) (challengesShape challenges) .0 (parts .1) in
+    record {
+      table-is-whole = table-shape table (parts .0);
+      aux-length = aux-shape table aux (arrays .0);
+      challenges-right = arrays .1;
+      challenges-length = challenges-shape challenges (arrays .1);
+    }
 
 -- ---- words below p
 pub reduced-word : (ws : List ℕ) → allReduced ws ≡ true → (i : ℕ) → i < length ws → getD ws i 0 < p

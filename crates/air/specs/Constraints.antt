@@ -13,13 +13,13 @@ use Rattle.air.specs.Challenges.{Challenges, rowDenominator}
 
 infixl 60 _⊕_ _⊖_
 infixl 70 _⊗_
-abbrev _⊕_ : ℕ → ℕ → ℕ
+abbrev pub _⊕_ : ℕ → ℕ → ℕ
 a ⊕ b = addF a b
 
-abbrev _⊖_ : ℕ → ℕ → ℕ
+abbrev pub _⊖_ : ℕ → ℕ → ℕ
 a ⊖ b = subF a b
 
-abbrev _⊗_ : ℕ → ℕ → ℕ
+abbrev pub _⊗_ : ℕ → ℕ → ℕ
 a ⊗ b = mulF a b
 
 -- ---- the source's `instruction_deselector`: from 1, the product of CI − opcode over the instructions other than the selected one

@@ -1,4 +1,3 @@
-pub mod Tests
 pub mod Groups
 pub mod Joined
 pub mod Clauses

@@ -6,14 +6,12 @@ ghost use lib.ListN.{length};
 ghost use Rattle.words.specs.Answers.{Answer};
 ghost use Rattle.words.specs.Refusals.{declineIf, orElse};
 ghost use Rattle.words.specs.declared.Refusal.the-variants.{Shape, Short, Unreduced};
-ghost use Rattle.air.specs.Columns.{auxWidth, rowCount, tableShape, auxShape, allReduced};
-ghost use Rattle.air.specs.Challenges.{challengeWords, challengesShape};
+ghost use Rattle.air.specs.Columns.{auxWidth, rowCount};
+ghost use Rattle.air.specs.Challenges.{challengeWords};
 ghost use Rattle.air.specs.Check.{judgeCheck, checkAll};
 ghost use Rattle.searches.specs.Finds.{followedBy};
 ghost use Rattle.checker.specs.Verdicts.{verdictAnswer, ZeroIff, Sound, Sums};
 ghost use Rattle.checker.specs.Groups.{searchGroup};
-use layout::AuxRow;
-use layout::Challenges;
 use layout::MainRow;
 use searches::Found;
 use words::Judgement;
@@ -28,33 +26,9 @@ pub enum Verdict {
 }
 
 // ---- refusals
-fn have_shapes(table: &[u64], aux: &[u64], challenges: &[u64]) -> bool
-    ensures { λ r. ⌜ r ≡ (tableShape (now (table .entry)) && (auxShape (now (table .entry)) (now (aux .entry)) && challengesShape (now (challenges .entry)))) ⌝ }
-{
-    if !MainRow::has_shape(table) {
-        return false;
-    }
-    if !AuxRow::has_shape(table, aux) {
-        return false;
-    }
-    Challenges::has_shape(challenges)
-}
-
-fn are_reduced(table: &[u64], aux: &[u64], challenges: &[u64]) -> bool
-    ensures { λ r. ⌜ r ≡ (allReduced (now (table .entry)) && (allReduced (now (challenges .entry)) && allReduced (now (aux .entry)))) ⌝ }
-{
-    if !layout::all_reduced(table) {
-        return false;
-    }
-    if !layout::all_reduced(challenges) {
-        return false;
-    }
-    layout::all_reduced(aux)
-}
-
 // The first of the reasons 1, 7 and 8.
-fn first_reason(shapes: bool, no_rows: bool, reduced: bool) -> Judgement
-    ensures { λ r. ⌜ r ≡ orElse (declineIf (not shapes) Shape) (orElse (declineIf «no_rows» Short) (declineIf (not reduced) Unreduced)) ⌝ }
+fn first_reason(shapes: bool, no_rows: bool, reduced: bool, aux_reduced: bool) -> Judgement
+    ensures { λ r. ⌜ r ≡ orElse (declineIf (not shapes) Shape) (orElse (declineIf «no_rows» Short) (declineIf (not (reduced && «aux_reduced»)) Unreduced)) ⌝ }
 {
     if !shapes {
         return Judgement::Declined(Refusal::Shape);
@@ -65,17 +39,22 @@ fn first_reason(shapes: bool, no_rows: bool, reduced: bool) -> Judgement
     if !reduced {
         return Judgement::Declined(Refusal::Unreduced);
     }
+    if !aux_reduced {
+        return Judgement::Declined(Refusal::Unreduced);
+    }
     Judgement::Fine
 }
 
 fn judge(table: &[u64], aux: &[u64], challenges: &[u64]) -> Judgement
     ensures { λ r. ⌜ r ≡ judgeCheck (now (table .entry)) (now (aux .entry)) (now (challenges .entry)) ⌝ }
 {
+    let shapes = layout::have_shapes(table, aux, challenges);
     let no_rows = table.len() / MainRow::WIDTH == 0;
     first_reason(
-        have_shapes(table, aux, challenges),
+        shapes,
         no_rows,
-        are_reduced(table, aux, challenges),
+        layout::are_reduced(table, challenges),
+        layout::all_reduced(aux),
     )
 }
 

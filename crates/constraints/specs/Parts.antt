@@ -3,10 +3,9 @@
 -- polynomials there.
 use Prim.Native.Nat.{ℕ}
 use mathlib.Core.Path.{_≡_}
-use Rattle.field.specs.Elements.{addF, subF, mulF}
 use Rattle.xfield.specs.Extension.{Ext, zeroX, addX, subX, mulX, scaleX}
 use Rattle.air.specs.Columns.{Row}
-use Rattle.air.specs.Constraints.{oneMinusProduct, baseValue}
+use Rattle.air.specs.Constraints.{_⊕_, _⊖_, _⊗_, oneMinusProduct, baseValue}
 use Rattle.air.specs.Constraints.{«copy_flag_is_bit»}
 use Rattle.air.specs.Constraints.{«copy_flag_is_0_or_bits_is_0»}
 use Rattle.air.specs.Constraints.{«bits_minus_33_inv_is_inverse_of_bits_minus_33»}
@@ -15,17 +14,6 @@ use Rattle.constraints.specs.declared.Deselectors.{Deselectors}
 use Rattle.constraints.specs.declared.FlagConsistency.{FlagConsistency}
 use Rattle.constraints.specs.declared.InverseConsistency.{InverseConsistency}
 use Rattle.constraints.specs.declared.ResultConsistency.{ResultConsistency}
-
-infixl 60 _⊕_ _⊖_
-infixl 70 _⊗_
-abbrev _⊕_ : ℕ → ℕ → ℕ
-a ⊕ b = addF a b
-
-abbrev _⊖_ : ℕ → ℕ → ℕ
-a ⊖ b = subF a b
-
-abbrev _⊗_ : ℕ → ℕ → ℕ
-a ⊗ b = mulF a b
 
 -- ---- initial
 abbrev pub startsWords : ℕ → Ext → Ext → ℕ → Ext

@@ -1,10 +1,9 @@
 -- The reasons against an extension in their order, 1, 8, 9: what each answer of the three tests makes of `extendReason`, what it tells that
 -- there is none, and what `extendAll` makes of it. Assumes nothing.
-use Prim.Native.Nat.{ℕ, _*_}
+use Prim.Native.Nat.{ℕ}
 use mathlib.Core.Path.{_≡_, refl, ap}
 use mathlib.Core.Bool.{Bool, true, false, _&&_, and-eq-true-iff}
 use mathlib.Core.List.{List}
-use lib.ListN.{length}
 use Rattle.words.specs.Answers.{done}
 use Rattle.words.specs.declared.Refusal.{Refusal}
 use Rattle.words.specs.declared.Refusal.the-variants.{Shape, Unreduced, Flat}
@@ -13,15 +12,13 @@ use Rattle.words.proofs.Judgements.{or-both, decline-not-fine}
 use Rattle.xfield.specs.Extension.{Ext}
 use Rattle.xfield.specs.declared.XFieldElement.{XFieldElement}
 use Rattle.xfield.specs.XFieldElements.{extOf}
-use Rattle.air.specs.Columns.{rowCount, auxWidth, tableShape, auxShape, allReduced}
-use Rattle.air.specs.Challenges.{challengeWords, challengesShape}
+use Rattle.air.specs.Columns.{rowCount, tableShape, auxShape, allReduced}
+use Rattle.air.specs.Challenges.{challengesShape}
 use Rattle.air.specs.RunningSum.{summandAt, lookupSum}
-use Rattle.air.specs.Claim.{DenominatorsInvertible}
-use Rattle.air.proofs.Rows.{TableShape, table-shape, aux-shape, challenges-shape}
+use Rattle.air.proofs.Rows.{Shaped, shaped}
 use Rattle.u32_table.specs.Extending.{denominatorsOk, extendReason, elementWords, sumWords, extendAll}
 use Rattle.extension.specs.Extensions.{IsExtended}
 use Rattle.extension.specs.declared.Extended.the-variants.{Sum, Refused}
-use Rattle.extension.proofs.Sums.{denominators-invertible}
 
 module _ (table aux challenges : List ℕ) where
   abbrev shape : Bool
@@ -50,28 +47,12 @@ module _ (table aux challenges : List ℕ) where
   unfolding extendReason
   fine s r d = rw (s, r, d)
 
-  -- ---- what a shape tells
-  pub record Shaped : Type 0 where
-    pub table-is-whole : TableShape table
-    pub aux-length : length aux ≡ auxWidth * rowCount table
-    pub challenges-length : length challenges ≡ challengeWords
-
-  pub shaped : shape ≡ true → Shaped
-  shaped s =
-      let parts = and-eq-true-iff (tableShape table) (auxShape table aux && challengesShape challenges) .0 s in
-      let arrays = and-eq-true-iff (auxShape table aux) (challengesShape challenges) .0 (parts .1) in
-      record {
-        table-is-whole = table-shape table (parts .0);
-        aux-length = aux-shape table aux (arrays .0);
-        challenges-length = challenges-shape challenges (arrays .1);
-      }
-
   -- ---- what it tells that there is no reason
   pub record Extendable : Type 0 where
-    pub shapes : Shaped
+    pub shapes : Shaped table aux challenges
     pub table-reduced : allReduced table ≡ true
     pub challenges-reduced : allReduced challenges ≡ true
-    pub denominators : DenominatorsInvertible table challenges
+    pub denominators : invertible ≡ true
 
   pub extendable : extendReason table aux challenges ≡ Fine → Extendable
   unfolding extendReason
@@ -80,10 +61,10 @@ module _ (table aux challenges : List ℕ) where
       let eight = or-both _ _ (one .1) in
       let words = and-eq-true-iff (allReduced table) (allReduced challenges) .0 (decline-not-fine reduced Unreduced (eight .0)) in
       record {
-        shapes = shaped (decline-not-fine shape Shape (one .0));
+        shapes = shaped table aux challenges (decline-not-fine shape Shape (one .0));
         table-reduced = words .0;
         challenges-reduced = words .1;
-        denominators = denominators-invertible table challenges .0 (decline-not-fine invertible Flat (eight .1));
+        denominators = decline-not-fine invertible Flat (eight .1);
       }
 
   -- ---- answers and aux words

@@ -1,14 +1,13 @@
 // Extension: the sum over a table's CopyFlag 1 rows, so far at each row, stored in the aux words. All is judged before the first aux word is
 // written.
 ghost use mathlib.Core.Path.{_≡_};
-ghost use mathlib.Core.Bool.{_&&_};
 ghost use Prim.Native.Nat.{_+_, _*_, _≤_};
 ghost use lib.ListN.{length};
 ghost use lib.Seq.{sets};
 ghost use Rattle.xfield.specs.XFieldElements.{extOf};
 ghost use Rattle.xfield.proofs.Inverses.{invX};
-ghost use Rattle.air.specs.Columns.{auxWidth, rowCount, tableShape, auxShape, allReduced};
-ghost use Rattle.air.specs.Challenges.{challengeWords, challengesShape, rowDenominator};
+ghost use Rattle.air.specs.Columns.{mainWidth, auxWidth, rowAt, rowCount};
+ghost use Rattle.air.specs.Challenges.{challengeWords, rowDenominator};
 ghost use Rattle.air.specs.RunningSum.{addSummand, summandAt, lookupSum};
 ghost use Rattle.layout.specs.Layouts.{rowOf, challengesIn};
 ghost use Rattle.u32_table.specs.Extending.{denominatorOk, denominatorsOk, extendReason, elementWords, sumWords, extendAll};
@@ -26,35 +25,26 @@ pub enum Extended {
     Refused(Refusal),
 }
 
-// Whole rows and not too many, three aux words a row, fifteen challenge words.
-fn have_shapes(table: &[u64], aux: &[u64], challenges: &[u64]) -> bool
-    ensures { λ r. ⌜ r ≡ (tableShape (now (table .entry)) && (auxShape (now (table .entry)) (now (aux .entry)) && challengesShape (now (challenges .entry)))) ⌝ }
+fn denominator_of(row: MainRow, challenges: Challenges) -> XFieldElement
+    ensures { λ r. ⌜ extOf r ≡ rowDenominator (challengesIn challenges) (rowOf row) ⌝ }
 {
-    MainRow::has_shape(table)
-        && (AuxRow::has_shape(table, aux) && Challenges::has_shape(challenges))
-}
-
-// Every word of the table and of the challenges is below p. Old aux words are not looked at.
-fn are_reduced(table: &[u64], challenges: &[u64]) -> bool
-    ensures { λ r. ⌜ r ≡ (allReduced (now (table .entry)) && allReduced (now (challenges .entry))) ⌝ }
-{
-    layout::all_reduced(table) && layout::all_reduced(challenges)
+    challenges.denominator(row.lhs, row.rhs, row.ci, row.result)
 }
 
 // The inverse of a row's denominator, zero where it has none.
 fn inverse_of_denominator(row: MainRow, challenges: Challenges) -> XFieldElement
     ensures { λ r. ⌜ extOf r ≡ invX (rowDenominator (challengesIn challenges) (rowOf row)) ⌝ }
 {
-    challenges
-        .denominator(row.lhs, row.rhs, row.ci, row.result)
-        .inverse_or_zero()
+    denominator_of(row, challenges).inverse_or_zero()
 }
 
-// Nothing against a row's denominator: CopyFlag is not 1, or there is an inverse.
-fn denominator_ok(row: MainRow, challenges: Challenges) -> bool
-    ensures { λ r. ⌜ r ≡ denominatorOk (summandOf (challengesIn challenges) (rowOf row)) ⌝ }
+// Nothing against the denominator of row i: CopyFlag is not 1, or there is an inverse. Of other rows only CopyFlag is read.
+fn denominator_ok(table: &[u64], i: usize, challenges: Challenges) -> bool
+    requires { ⌜ mainWidth * i + mainWidth ≤ length (now table) ⌝ }
+    ensures { λ r. ⌜ r ≡ denominatorOk (summandOf (challengesIn challenges) (rowAt (now (table .entry)) i)) ⌝ }
 {
-    row.copy_flag.0 != 1 || !inverse_of_denominator(row, challenges).is_zero()
+    table[MainRow::WIDTH * i] != 1
+        || denominator_of(MainRow::at(table, i), challenges).is_invertible()
 }
 
 // Nothing against the denominator of any row.
@@ -66,7 +56,7 @@ fn denominators_ok(table: &[u64], challenges: &[u64]) -> bool
     let rows = table.len() / MainRow::WIDTH;
     let mut judged: usize = 0;
     while judged < rows {
-        if !denominator_ok(MainRow::at(table, judged), elements) {
+        if !denominator_ok(table, judged, elements) {
             return false;
         }
         judged += 1;
@@ -74,12 +64,12 @@ fn denominators_ok(table: &[u64], challenges: &[u64]) -> bool
     true
 }
 
-// Reasons 1, 8 and 9, in this order.
+// Reasons 1, 8 and 9, in this order. Old aux words are not looked at.
 fn judge(table: &[u64], aux: &[u64], challenges: &[u64]) -> Judgement
     ensures { λ r. ⌜ r ≡ extendReason (now (table .entry)) (now (aux .entry)) (now (challenges .entry)) ⌝ }
 {
-    let shapes = have_shapes(table, aux, challenges);
-    let reduced = are_reduced(table, challenges);
+    let shapes = layout::have_shapes(table, aux, challenges);
+    let reduced = layout::are_reduced(table, challenges);
     if !shapes {
         return Judgement::Declined(Refusal::Shape);
     }
@@ -92,11 +82,13 @@ fn judge(table: &[u64], aux: &[u64], challenges: &[u64]) -> Judgement
     Judgement::Fine
 }
 
-// The sum with what a row adds to it: where CopyFlag is 1, its multiplicity times the inverse of its denominator.
-fn add_row(sum: XFieldElement, row: MainRow, challenges: Challenges) -> XFieldElement
-    ensures { λ r. ⌜ extOf r ≡ addSummand (extOf sum) (summandOf (challengesIn challenges) (rowOf row)) ⌝ }
+// The sum with what row i adds to it: where CopyFlag is 1, its multiplicity times the inverse of its denominator.
+fn add_row(sum: XFieldElement, table: &[u64], i: usize, challenges: Challenges) -> XFieldElement
+    requires { ⌜ mainWidth * i + mainWidth ≤ length (now table) ⌝ }
+    ensures { λ r. ⌜ extOf r ≡ addSummand (extOf sum) (summandOf (challengesIn challenges) (rowAt (now (table .entry)) i)) ⌝ }
 {
-    if row.copy_flag.0 == 1 {
+    if table[MainRow::WIDTH * i] == 1 {
+        let row = MainRow::at(table, i);
         sum.add(inverse_of_denominator(row, challenges).scale(row.lookup_multiplicity))
     } else {
         sum
@@ -125,7 +117,7 @@ fn write_sums(table: &[u64], aux: &mut [u64], challenges: &[u64]) -> XFieldEleme
     let mut sum = XFieldElement::ZERO;
     let mut written: usize = 0;
     while written < rows {
-        let next = add_row(sum, MainRow::at(table, written), elements);
+        let next = add_row(sum, table, written, elements);
         put_sum(aux, written, next);
         sum = next;
         written += 1;

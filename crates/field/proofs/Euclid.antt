@@ -5,14 +5,14 @@
 use Prim.Native.Nat.{ℕ, zero, suc, _+_, _-_, _*_, _/_, _%_, _≤_, _<_}
 use mathlib.Core.Path.{_≡_, refl, sym, ap, _∙_}
 use mathlib.Core.Logic.{_≢_}
-use native.Mathlib.Nat.{div-add-mod', mod-lt, mul-zero, mul-one, mul-mod-left, zero-add, add-zero}
+use native.Mathlib.Nat.{div-add-mod', mod-lt, mod-eq-of-lt, mul-zero, zero-mul, mul-one, mul-assoc, add-mul, mul-mod-left, zero-add, add-zero}
 use native.Mathlib.Decide.{ℕ-discrete}
 use native.Mathlib.Omega.{arith}
-use Rattle.field.specs.Elements.{p, mulF, invF}
+use Rattle.field.specs.Elements.{p, negF, mulF, invF}
 use Rattle.field.proofs.Congruence.{Cong, c-eq, c-mul, c-add, c-mod, c-refl, c-sym, _⨾_}
 use Rattle.field.proofs.Primality.{p-prime}
 use Rattle.field.proofs.Fermat.{rest}
-use Rattle.field.proofs.Inverses.{invF-by-product, invF-none}
+use Rattle.field.proofs.Inverses.{invF-by-product, invF-none, invF-product}
 
 -- what a pair of remainders r, s and of coefficients t, u keeps
 abbrev pub Whole : ℕ → ℕ → ℕ → ℕ → Type 0
@@ -149,3 +149,41 @@ ends-high x a r0 r1 t0 t1 e i one = inverse x a (p - t0) e (pick (ℕ-discrete t
       where
         back : p - t0 + t0 ≡ p
         back = omega (arith, i .fit)
+
+-- The same down to a remainder whose inverse i is known.
+known : (k i : ℕ) → 0 < k → k < p → i ≡ invF k → Cong p (k * i) 1
+unfolding mulF
+known k i h l e =
+    c-eq (ap (λ (n : ℕ). k * n) e) ⨾ record { same = invF-product k (λ z. omega (arith, sym (mod-eq-of-lt l) ∙ z)) }
+
+pub table-low : (x a r0 r1 t0 t1 i r : ℕ) → a ≡ x % p → Turning a r0 r1 t0 t1 → i ≡ invF r1 → r ≡ mulF t1 i → r ≡ invF x
+unfolding mulF
+table-low x a r0 r1 t0 t1 i r e h ei er =
+    er ∙ inverse x a (mulF t1 i) e (mod-lt (t1 * i) (omega arith))
+    (c-mul c-refl c-mod ⨾ c-eq (sym (mul-assoc a t1 i)) ⨾ c-mul (h .low) c-refl ⨾ known r1 i (h .some) (h .small) ei)
+
+pub table-high : (x a r0 r1 t0 t1 i m r : ℕ) → a ≡ x % p → Halfway a r0 r1 t0 t1 → i ≡ invF r0 → m ≡ mulF t0 i → r ≡ negF m → r ≡ invF x
+unfolding mulF negF
+table-high x a r0 r1 t0 t1 i m r e h ei em er = inverse x a r e (omega (arith, er)) prod
+  where
+    -- r + m is 0, and a * m is -1
+    rm : Cong p (r + m) 0
+    rm =
+        let l : m < p = omega (arith, em) in
+        c-add (c-eq er ⨾ c-mod) c-refl ⨾ c-eq (back l) ⨾ record { same = refl }
+      where
+        back : m < p → p - m % p + m ≡ p
+        back l = omega (arith, mod-eq-of-lt l)
+
+    am : Cong p (a * m + 1) 0
+    am =
+        c-add (c-mul c-refl (c-eq em ⨾ c-mod) ⨾ c-eq (sym (mul-assoc a t0 i))) (c-sym (known r0 i (h .some) (omega arith) ei))
+        ⨾ c-eq (sym (add-mul (a * t0) r0 i)) ⨾ c-mul (h .high) c-refl ⨾ c-eq (zero-mul i)
+
+    regroup : a * r + (a * m + 1) ≡ a * (r + m) + 1
+    regroup = omega arith
+
+    prod : Cong p (a * r) 1
+    prod =
+        c-eq (sym (add-zero (a * r))) ⨾ c-add c-refl (c-sym am) ⨾ c-eq regroup
+        ⨾ c-add (c-mul (c-refl {a = a}) rm ⨾ c-eq (mul-zero a)) c-refl

@@ -8,5 +8,7 @@ pub mod Fermat
 pub mod Powers
 pub mod Inverses
 pub mod Laws
+pub mod Tables
+pub mod SmallInverses
 mod Words
 mod Euclid

@@ -1,2 +1,3 @@
 pub mod Elements
 pub mod Primes
+pub mod SmallInverses

@@ -19,12 +19,13 @@ use Rattle.words.specs.declared.Judgement.{Judgement}
 use Rattle.words.specs.declared.Judgement.the-variants.{Fine, Declined}
 use Rattle.words.proofs.Judgements.{or-both, or-next, decline-fine, decline-false, decline-not-fine, decline-not-true}
 use Rattle.words.proofs.Sets.{sets-append, sets-front}
-use Rattle.aet.specs.Lists.{U32List, used, judgeList}
-use Rattle.aet.specs.Heights.{getsSection, sectionPlacesTo, sectionPlaces, listHeight}
-use Rattle.aet.proofs.JudgedLists.{list-admitted, entry-admissible}
+use Rattle.lists.specs.Lists.{U32List, used, judgeList}
+use Rattle.lists.specs.Heights.{getsSection, sectionPlacesTo, sectionPlaces, listHeight}
+use Rattle.lists.proofs.JudgedLists.{list-admitted, entry-admissible}
 use Rattle.air.specs.Columns.{Row, mainWidth, rowAt, rowCount, tableShape, allReduced}
 use Rattle.air.proofs.Rows.{TableShape, table-shape}
-use Rattle.u32_table.specs.Filling.{rowWords, tableWords, Sections, sectionsAt, filledAs, fillReason, fillAll}
+use Rattle.sections.specs.Sections.{rowWords, tableWords}
+use Rattle.u32_table.specs.Filling.{Sections, sectionsAt, filledAs, fillReason, fillAll}
 use Rattle.u32_table.specs.Padding.{paddingRow, lastFilled, padReason, paddedAs, padAll}
 use Rattle.u32_table.proofs.ListSections.{words-append, words-length}
 use Rattle.honest.specs.FourCalls.{filledTable, paddedTable}

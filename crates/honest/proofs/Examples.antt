@@ -17,12 +17,15 @@ use Rattle.isa.specs.PlainFunctions.{plainLt, floorLog2, plainPow, oneBits, pla
 use Rattle.isa.specs.declared.U32TableEntry.{U32TableEntry}
 use Rattle.isa.specs.Entries.{lhs, rhs, entry, judgeEntry, admitted, dominant, heightOf, height}
 use Rattle.isa.proofs.Entries.{Admissible, fine-admissible}
-use Rattle.aet.specs.Lists.{U32List, keyAt, multiplicityAt, entryAt, listShape, countFull, judgePlace, judgeList}
-use Rattle.aet.specs.Heights.{getsSection, sectionPlacesTo, sectionPlaces, entriesAt, sumHeights, listHeight}
+use Rattle.lists.specs.Lists.{U32List, keyAt, multiplicityAt, entryAt, listShape, countFull, judgePlace, judgeList}
+use Rattle.lists.specs.Heights.{getsSection, sectionPlacesTo, sectionPlaces, entriesAt, sumHeights, listHeight}
 use Rattle.air.specs.Columns.{Row, mainWidth, rowAt, tableShape}
-use Rattle.u32_table.specs.declared.Choice.the-variants.{Value}
-use Rattle.u32_table.specs.Filling.{sectionRow, isEnd, ending, sectionFrom, section, topResult, Sections, joined, sectionsAt}
-use Rattle.u32_table.specs.Filling.{fillReason, fillAll, firstRow}
+use Rattle.results.specs.declared.Choice.the-variants.{Value}
+use Rattle.results.specs.Results.{isEnd, ending}
+use Rattle.sections.specs.Sections.{sectionRow, sectionFrom, section, topResult}
+use Rattle.u32_table.specs.Filling.{Sections, joined, sectionsAt}
+use Rattle.sections.specs.Sections.{firstRow}
+use Rattle.u32_table.specs.Filling.{fillReason, fillAll}
 use Rattle.u32_table.specs.Padding.{paddingRow}
 use Rattle.honest.specs.FourCalls.{paddedTable}
 use Rattle.honest.specs.Examples.{oneEntry, HasResult, HasPadding, AllHold, examples}

@@ -6,7 +6,7 @@
 -- and the aux words are running sums.
 use Prim.Native.Nat.{ℕ, zero, suc, _+_, _-_, _*_, _<_}
 use mathlib.Core.Path.{_≡_, refl, sym, ap, _∙_, subst}
-use mathlib.Core.Bool.{Bool, true, not, _&&_, and-eq-true-iff}
+use mathlib.Core.Bool.{Bool, true, _&&_, and-eq-true-iff}
 use mathlib.Core.List.{List, [], _∷_}
 use native.Mathlib.Omega.{arith}
 use native.Mathlib.Numerals.{add-one}
@@ -14,20 +14,20 @@ use lib.ListN.{length, getD}
 use borrow.Author.Tests.{eq-eqb, ne-eqb}
 use Rattle.xfield.specs.Extension.{Ext, zeroX, HasInverse}
 use Rattle.words.specs.Answers.{done}
-use Rattle.words.specs.Refusals.{declineIf}
-use Rattle.words.specs.declared.Refusal.the-variants.{Shape, Short, Unreduced, Flat}
+use Rattle.words.specs.declared.Refusal.the-variants.{Shape, Short, Unreduced}
 use Rattle.words.specs.declared.Judgement.{Judgement}
 use Rattle.words.specs.declared.Judgement.the-variants.{Fine, Declined}
-use Rattle.words.proofs.Judgements.{or-both, or-next, decline-false, decline-not-fine, decline-not-true}
-use Rattle.aet.specs.Lists.{U32List}
-use Rattle.aet.specs.Heights.{sectionPlaces, listHeight}
+use Rattle.words.proofs.Judgements.{or-next, decline-false, decline-not-true}
+use Rattle.lists.specs.Lists.{U32List}
+use Rattle.lists.specs.Heights.{sectionPlaces, listHeight}
 use Rattle.air.specs.Columns.{Row, mainWidth, rowAt, rowCount, auxWidth, auxAt, tableShape, auxShape, allReduced}
 use Rattle.air.specs.Challenges.{Challenges, challengesOf, challengesShape, rowDenominator}
 use Rattle.air.specs.RunningSum.{Summand, addSummand, runningSum, summandAt, lookupSum}
 use Rattle.air.specs.Check.{AllZero, initialAt, terminalAt, ConstraintsHold, judgeCheck, checkAll}
 use Rattle.air.proofs.Lists.{TransitionZero, SumZero, zero-initial, zero-consistency, zero-transition, zero-terminal}
 use Rattle.air.proofs.Claims.{zero-iff}
-use Rattle.u32_table.specs.Filling.{tableWords, fillReason, fillAll}
+use Rattle.sections.specs.Sections.{tableWords}
+use Rattle.u32_table.specs.Filling.{fillReason, fillAll}
 use Rattle.u32_table.specs.Extending.{denominatorsOk, elementWords, sumWords, extendReason, extendedAs, extendAll}
 use Rattle.u32_table.proofs.ListSections.{words-length}
 use Rattle.honest.specs.FourCalls.{tableRowsTo, copyFlag1, copyFlag1Rows, firstRows, sumFrom, extendRefusals, AfterFill, paddedTable}
@@ -38,6 +38,7 @@ use Rattle.honest.proofs.RowLists.{each-map, each-at, last-at, below-at
 use Rattle.honest.proofs.Tables.{Chain, front, padded-chain, padded-first-rows}
 use Rattle.honest.proofs.Sums.{denominators-of-rows, sum-of-rows, next-sum-zero, first-sum-zero, sums-reduced}
 use Rattle.extension.proofs.Sums.{ok-inverse, sums-length, sums-at}
+use Rattle.extension.proofs.Reasons.{extendable}
 use Rattle.words.proofs.Answers.{declined-not-done}
 use Rattle.honest.proofs.Calls.{Filled, fill-answer, fill-done, pad-done, shape-by-length}
 use Rattle.honest.proofs.Calls.{finalRows, final-count, padded-is}
@@ -125,24 +126,6 @@ module _ (xs : List Row) (chain : Chain front xs) (challenges : List ℕ) where
     check-zero t s r n = zero-iff words sums challenges .1 (check-accepts t s r n, constraints-hold)
 
 -- ---- extend
-record ExtendFine (table aux challenges : List ℕ) : Type 0 where
-  pub challenges-shape : challengesShape challenges ≡ true
-  pub challenges-reduced : allReduced challenges ≡ true
-  pub denominators : denominatorsOk (summandAt table challenges) (rowCount table) ≡ true
-
-extend-fine : (table aux challenges : List ℕ) → extendReason table aux challenges ≡ Fine → ExtendFine table aux challenges
-unfolding extendReason
-extend-fine table aux challenges h =
-    let one = or-both (declineIf (not (tableShape table && (auxShape table aux && challengesShape challenges))) Shape) _ h in
-    let eight = or-both (declineIf (not (allReduced table && allReduced challenges)) Unreduced) _ (one .1) in
-    let arrays = auxShape table aux && challengesShape challenges in
-    let shapes = and-eq-true-iff (tableShape table) arrays .0 (decline-not-fine _ Shape (one .0)) in
-    record {
-      challenges-shape = and-eq-true-iff (auxShape table aux) (challengesShape challenges) .0 (shapes .1) .1;
-      challenges-reduced = and-eq-true-iff (allReduced table) (allReduced challenges) .0 (decline-not-fine _ Unreduced (eight .0)) .1;
-      denominators = decline-not-fine (denominatorsOk (summandAt table challenges) (rowCount table)) Flat (eight .1);
-    }
-
 extend-done : (table aux challenges : List ℕ) {sum : List ℕ} → extendAll table aux challenges .answer ≡ done sum
     → extendReason table aux challenges ≡ Fine
 unfolding extendAll
@@ -194,14 +177,14 @@ module _ {l : U32List} {table : List ℕ} {height : ℕ} (f : Filled l table hei
   passes : (aux challenges : List ℕ) → 0 < rowCount table → extendReason padded aux challenges ≡ Fine
       → checkAll padded (extendedAux l table height aux challenges) challenges ≡ done []
   passes aux challenges n h =
-      let fine = extend-fine padded aux challenges h in
+      let fine = extendable padded aux challenges h in
       ap (λ (a : List ℕ). checkAll padded a challenges) (extended-is padded aux challenges h)
       ∙ subst (λ (ws : List ℕ). rowCount ws ≡ rowCount table → tableShape ws ≡ true
       → denominatorsOk (summandAt ws challenges) (rowCount ws) ≡ true
       → checkAll ws (sumWords (summandAt ws challenges) (rowCount ws)) challenges ≡ done [])
       (sym (padded-is f))
       (λ count shape ok.
-      check-zero (finalRows f) final-chain challenges ok shape (fine .challenges-shape) (fine .challenges-reduced) (omega arith))
+      check-zero (finalRows f) final-chain challenges ok shape (fine .shapes .challenges-right) (fine .challenges-reduced) (omega arith))
       padded-rows padded-shape (fine .denominators)
 
 pub four-calls : (l : U32List) (table aux challenges : List ℕ) (height : ℕ) (sum : List ℕ) → 0 < rowCount table

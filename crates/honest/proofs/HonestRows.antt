@@ -22,7 +22,7 @@ use Rattle.air.specs.Constraints as Poly
 use Rattle.air.specs.Constraints.{oneMinusProduct}
 use Rattle.air.proofs.Rows.{RowReduced}
 use Rattle.air.proofs.Lists.{ConsistencyZero}
-use Rattle.u32_table.specs.Filling.{bitsMinus33Inverse}
+use Rattle.sections.specs.Sections.{bitsMinus33Inverse}
 use Rattle.honest.proofs.Products.{zero-factor, factor-zero, same-zero, zs, selected-or-zero, zero-or-marked}
 use Rattle.honest.proofs.Results.{each-opcode, rowResult, rowResult-below, at-lt, at-log, at-and, at-pop-count, at-pow}
 use Rattle.honest.proofs.Results.{lt-equal-first, lt-equal-below, log-none}

@@ -19,8 +19,9 @@ use Rattle.isa.proofs.Logarithm.{floor-log2-half, floor-log2-one, floor-log2-be
 use Rattle.isa.proofs.PlainLaws.{lt-bit, lt-same, lt-step, lt-step-same, and-zero-left, and-left, and-step-bits, pow-zero}
 use Rattle.isa.proofs.PlainLaws.{pow-step-zero, pow-step-one}
 use Rattle.isa.proofs.PlainLaws.{one-bits-zero, one-bits-step, one-bits-le, result-below}
-use Rattle.u32_table.specs.declared.Choice.the-variants.{Value}
-use Rattle.u32_table.specs.Filling.{ending, carry, carryLt, carryLog2Floor, carryPow, carryAnd, carryPopCount, nextLhs}
+use Rattle.results.specs.declared.Choice.the-variants.{Value}
+use Rattle.results.specs.Results.{ending, carry, carryLt, carryLog2Floor, carryPow, carryAnd, carryPopCount}
+use Rattle.sections.specs.Sections.{nextLhs}
 
 -- ---- an opcode of the six
 pub each-opcode : (P : ℕ → Type 0) → P opSplit → P opLt → P opLog2Floor → P opAnd → P opPopCount → P opPow → (o : ℕ) → OneOfSix o → P o

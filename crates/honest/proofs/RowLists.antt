@@ -13,7 +13,7 @@ use borrow.Author.Tests.{lt-ltb, eq-eqb}
 use Rattle.field.specs.Elements.{p}
 use Rattle.air.specs.Columns.{Row, mainWidth, rowAt, rowCount, allReduced}
 use Rattle.air.proofs.Rows.{RowReduced}
-use Rattle.u32_table.specs.Filling.{tableWords}
+use Rattle.sections.specs.Sections.{tableWords}
 use Rattle.u32_table.proofs.ListSections.{words-length}
 use Rattle.honest.specs.FourCalls.{tableRowsTo, copyFlag1}
 

@@ -15,8 +15,8 @@ use Rattle.words.specs.declared.Refusal.{Refusal}
 use Rattle.words.specs.declared.Judgement.{Judgement}
 use Rattle.words.specs.declared.Judgement.the-variants.{Fine, Declined}
 use Rattle.words.proofs.Answers.{number-positive, declined-not-done}
-use Rattle.aet.specs.Lists.{U32List}
-use Rattle.aet.specs.Heights.{listHeight}
+use Rattle.lists.specs.Lists.{U32List}
+use Rattle.lists.specs.Heights.{listHeight}
 use Rattle.air.specs.Columns.{rowCount}
 use Rattle.air.specs.Challenges.{challengesOf}
 use Rattle.air.specs.Check.{judgeCheck, firstNonzero, checkedAs, checkAll}

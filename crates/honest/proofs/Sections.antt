@@ -19,10 +19,11 @@ use Rattle.isa.proofs.Entries.{height-at-least, height-bound}
 use Rattle.air.specs.Columns.{Row}
 use Rattle.air.proofs.Descent.{EndRow}
 use Rattle.air.proofs.Lists.{TransitionZero}
-use Rattle.u32_table.specs.declared.Choice.the-variants.{Value}
-use Rattle.u32_table.specs.Filling.{sectionRow, isEnd, ending, carry, nextLhs, Section, rows, noSection, above, aboveSection}
-use Rattle.u32_table.specs.Filling.{sectionFrom, section, firstRow}
-use Rattle.u32_table.proofs.Sections.{end-zero, end-height, next-height, section-end, section-next}
+use Rattle.results.specs.declared.Choice.the-variants.{Value}
+use Rattle.results.specs.Results.{isEnd, ending, carry}
+use Rattle.sections.specs.Sections.{sectionRow, nextLhs, Section, rows, noSection, above, aboveSection}
+use Rattle.sections.specs.Sections.{sectionFrom, section, firstRow}
+use Rattle.sections.proofs.Sections.{end-zero, end-height, next-height, section-end, section-next}
 use Rattle.honest.proofs.Results.{rowResult, carry-is, ending-is, first-is}
 use Rattle.honest.proofs.HonestRows.{HonestRow, lhs-below}
 use Rattle.honest.proofs.Steps.{Follows, next-other, next-pow, follows-zero}

@@ -19,7 +19,8 @@ use Rattle.air.specs.Constraints as Poly
 use Rattle.air.specs.Constraints.{instructionDeselector, ciIsPow, lhsLsb, rhsLsb, oneMinusProduct}
 use Rattle.air.proofs.Descent.{EndRow}
 use Rattle.air.proofs.Lists.{TransitionZero, TerminalZero}
-use Rattle.u32_table.specs.Filling.{nextLhs, carryAnd, carryPopCount}
+use Rattle.results.specs.Results.{carryAnd, carryPopCount}
+use Rattle.sections.specs.Sections.{nextLhs}
 use Rattle.honest.proofs.Products.{zs, IsBit, bit-product, one-more, less-both, selected-or-zero, differ-01, differ-10}
 use Rattle.honest.proofs.Results.{rowResult, at-lt, at-log, at-and, at-pop-count, at-pow, low-bit, ltResult, log2FloorResult}
 use Rattle.honest.proofs.Results.{LtCarried, known-0, known-1, bits-01, bits-10, bits-same, lt-carried}

@@ -17,12 +17,13 @@ use Rattle.field.proofs.Laws.{invF-zero}
 use Rattle.isa.specs.Opcodes.{opLt, opLog2Floor, opPow}
 use Rattle.isa.specs.PlainFunctions.{plainResult}
 use Rattle.isa.proofs.Entries.{Admissible}
-use Rattle.aet.specs.Lists.{U32List, entryAt, multiplicityAt}
-use Rattle.aet.specs.Heights.{entriesAt, sumHeights}
+use Rattle.lists.specs.Lists.{U32List, entryAt, multiplicityAt}
+use Rattle.lists.specs.Heights.{entriesAt, sumHeights}
 use Rattle.air.specs.Columns.{Row}
 use Rattle.air.proofs.Descent.{EndRow}
 use Rattle.air.proofs.Lists.{TransitionZero}
-use Rattle.u32_table.specs.Filling.{nextLhs, joined, sectionsAt, firstRow}
+use Rattle.sections.specs.Sections.{nextLhs, firstRow}
+use Rattle.u32_table.specs.Filling.{joined, sectionsAt}
 use Rattle.u32_table.specs.Padding.{paddingRow, noRow}
 use Rattle.honest.specs.FourCalls.{copyFlag1, firstRowsAt}
 use Rattle.honest.proofs.Results.{rowResult, at-split, lt-equal-below, log-none}

@@ -9,10 +9,10 @@ use Rattle.isa.specs.Opcodes.{opLt, opLog2Floor, opAnd, opPopCount, opPow}
 use Rattle.isa.specs.PlainFunctions.{plainResult}
 use Rattle.isa.specs.declared.U32TableEntry.{U32TableEntry}
 use Rattle.isa.specs.Entries.{lhs, rhs, entry, height}
-use Rattle.aet.specs.Lists.{U32List, u32List}
+use Rattle.lists.specs.Lists.{U32List, u32List}
 use Rattle.air.specs.Columns.{mainWidth, rowAt}
-use Rattle.u32_table.specs.declared.Choice.the-variants.{Value}
-use Rattle.u32_table.specs.Filling.{section, topResult}
+use Rattle.results.specs.declared.Choice.the-variants.{Value}
+use Rattle.sections.specs.Sections.{section, topResult}
 use Rattle.honest.specs.FourCalls.{paddedTable}
 
 pub data Example : Type 0 where

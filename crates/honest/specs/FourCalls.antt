@@ -12,13 +12,14 @@ use Rattle.words.specs.declared.Judgement.{Judgement}
 use Rattle.words.specs.declared.Refusal.the-variants.{Shape, Unreduced, Flat}
 use Rattle.xfield.specs.Extension.{Ext, zeroX, addX, scaleX}
 use Rattle.xfield.proofs.Inverses.{invX, invertible}
-use Rattle.aet.specs.Lists.{U32List, entryAt, multiplicityAt}
-use Rattle.aet.specs.Heights.{sectionPlaces}
+use Rattle.lists.specs.Lists.{U32List, entryAt, multiplicityAt}
+use Rattle.lists.specs.Heights.{sectionPlaces}
 use Rattle.air.specs.Columns.{Row, rowAt, rowCount, auxShape, allReduced}
 use Rattle.air.specs.Challenges.{Challenges, challengesOf, challengesShape, rowDenominator}
 use Rattle.air.specs.RunningSum.{lookupSum}
 use Rattle.air.specs.Check.{checkAll}
-use Rattle.u32_table.specs.Filling.{firstRow, fillAll}
+use Rattle.sections.specs.Sections.{firstRow}
+use Rattle.u32_table.specs.Filling.{fillAll}
 use Rattle.u32_table.specs.Padding.{padAll}
 use Rattle.u32_table.specs.Extending.{extendReason, extendAll}
 

@@ -7,7 +7,7 @@ use lib.Dec.{eqb}
 use lib.ListN.{getD}
 use Rattle.words.specs.Answers.{Answer, done}
 use Rattle.words.specs.declared.Judgement.the-variants.{Fine}
-use Rattle.aet.specs.Lists.{U32List}
+use Rattle.lists.specs.Lists.{U32List}
 use Rattle.air.specs.Columns.{rowCount}
 use Rattle.air.specs.Check.{checkAll}
 use Rattle.u32_table.specs.Filling.{fillReason, fillAll}

@@ -1,11 +1,11 @@
 // Filled, padded and extended tables pass the check: theorems over the definitions of the four calls (specs/, proofs/), and `run`, which
 // makes the four calls.
-ghost use Rattle.aet.specs.Lists.{u32List};
+ghost use Rattle.lists.specs.Lists.{u32List};
 ghost use Rattle.checker.specs.Verdicts.{verdictAnswer};
 ghost use Rattle.honest.specs.Run.{runAll, IsRun, RunsHonestly, RefusesNoMore};
-use aet::Sizes;
 use checker::Verdict;
 use extension::Extended;
+use lists::Sizes;
 use u32_table::Filled;
 use u32_table::Padded;
 

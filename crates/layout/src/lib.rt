@@ -1,5 +1,6 @@
 // The rows of the U32 table and its challenges, as types over the flat words that are lent.
 ghost use mathlib.Core.Path.{_≡_};
+ghost use mathlib.Core.Bool.{_&&_};
 ghost use Prim.Native.Nat.{_+_, _*_, _≤_};
 ghost use lib.ListN.{length};
 ghost use Rattle.xfield.specs.XFieldElements.{extOf};
@@ -7,10 +8,8 @@ ghost use Rattle.air.specs.Columns.{mainWidth, auxWidth, rowAt, elementAt, auxA
 ghost use Rattle.air.specs.Challenges.{challengeWords, challengesOf, challengesShape, denominator};
 ghost use Rattle.layout.specs.Layouts.{rowOf, sumOf, challengesIn};
 use field::BFieldElement;
+use words::MAX_ROWS;
 use xfield::XFieldElement;
-
-// The rows that a table may have.
-pub const MAX_ROWS: usize = 131072;
 
 // Every word is below p.
 pub fn all_reduced(words: &[u64]) -> bool
@@ -72,7 +71,7 @@ impl MainRow {
 }
 
 // Element i of words that hold extension elements, three words each.
-pub fn element_at(words: &[u64], i: usize) -> XFieldElement
+fn element_at(words: &[u64], i: usize) -> XFieldElement
     requires { ⌜ 3 * i + 3 ≤ length (now words) ⌝ }
     ensures { λ r. ⌜ extOf r ≡ elementAt (now (words .entry)) i ⌝ }
 {
@@ -93,7 +92,7 @@ impl AuxRow {
     pub const WIDTH: usize = 3;
 
     // Three words a row of the table, which has not too many.
-    pub fn has_shape(table: &[u64], aux: &[u64]) -> bool
+    fn has_shape(table: &[u64], aux: &[u64]) -> bool
         ensures { λ r. ⌜ r ≡ auxShape (now (table .entry)) (now (aux .entry)) ⌝ }
     {
         aux.len() == Self::WIDTH * (table.len() / MainRow::WIDTH)
@@ -122,7 +121,7 @@ pub struct Challenges {
 impl Challenges {
     pub const WIDTH: usize = 15;
 
-    pub fn has_shape(words: &[u64]) -> bool
+    fn has_shape(words: &[u64]) -> bool
         ensures { λ r. ⌜ r ≡ challengesShape (now (words .entry)) ⌝ }
     {
         words.len() == Self::WIDTH
@@ -158,4 +157,19 @@ impl Challenges {
             .add(self.u32_result_weight.scale(result));
         self.u32_indeterminate.sub(compressed_row)
     }
+}
+
+// Whole rows and not too many, three aux words a row, fifteen challenge words.
+pub fn have_shapes(table: &[u64], aux: &[u64], challenges: &[u64]) -> bool
+    ensures { λ r. ⌜ r ≡ (tableShape (now (table .entry)) && (auxShape (now (table .entry)) (now (aux .entry)) && challengesShape (now (challenges .entry)))) ⌝ }
+{
+    MainRow::has_shape(table)
+        && (AuxRow::has_shape(table, aux) && Challenges::has_shape(challenges))
+}
+
+// Every word of the table and of the challenges is below p.
+pub fn are_reduced(table: &[u64], challenges: &[u64]) -> bool
+    ensures { λ r. ⌜ r ≡ (allReduced (now (table .entry)) && allReduced (now (challenges .entry))) ⌝ }
+{
+    all_reduced(table) && all_reduced(challenges)
 }

@@ -5,7 +5,7 @@ use Prim.Native.Nat.{ℕ}
 use mathlib.Core.Path.{_≡_, refl, sym}
 use mathlib.Core.Bool.{true}
 use mathlib.Core.List.{List, [], _∷_, _++_, flatMap}
-use lib.ListN.{replicate}
+use lib.ListN.{drop, replicate}
 use Rattle.field.specs.Elements.{invF, addF, subF, mulF, negF}
 use Rattle.field.proofs.Powers.{invF-computed}
 use Rattle.xfield.specs.Extension.{Ext, ext, oneX, addX, subX, mulX, scaleX, HasInverse, equalX, isZeroX}
@@ -17,10 +17,13 @@ use Rattle.words.specs.LittleEndian.{leAt}
 use Rattle.isa.specs.Opcodes.{isOpcode}
 use Rattle.isa.specs.Entries.{judgeEntry, admitted, admit, dominant, heightOf, height}
 use Rattle.isa.specs.PlainFunctions.{floorLog2}
-use Rattle.aet.specs.Lists.{U32List, u32List, keyAt, multiplicityAt, entryAt, listShape, countFull, judgePlace, judgeList}
-use Rattle.aet.specs.Heights.{getsSection, sectionPlacesTo, entriesAt, sumHeights, listHeight, paddedHeight, judgedList, planAll}
-use Rattle.stored.specs.Stored.{placesFrom, storedN, storedHeight, storedEntry, storedMultiplicity, torn, admitStored, occurs, repeats, tally}
-use Rattle.stored.specs.Stored.{contentReason, readReason, readAll}
+use Rattle.lists.specs.Lists.{U32List, u32List, keyAt, multiplicityAt, entryAt, listShape, countFull, judgePlace, judgeList}
+use Rattle.lists.specs.Heights.{getsSection, sectionPlacesTo, entriesAt, sumHeights, listHeight}
+use Rattle.lists.specs.Places.{placesFrom}
+use Rattle.aet.specs.Heights.{paddedHeight, planAll}
+use Rattle.packed.specs.Packed.{storedN, storedHeight, storedEntry, storedMultiplicity}
+use Rattle.repeats.specs.Repeats.{occurs, repeats}
+use Rattle.stored.specs.Stored.{torn, admitStored, tally, contentReason, readReason, readAll}
 use Rattle.air.specs.Columns.{rowAt, elementAt, tableShape, auxShape, allReduced}
 use Rattle.air.specs.Challenges.{challengesOf, challengesShape, compressedRow, denominator}
 use Rattle.air.specs.RunningSum.{addSummand, runningSum, summandAt, lookupSum}
@@ -66,11 +69,14 @@ use Rattle.air.specs.Constraints.{«if_copy_flag_next_is_1_then_running_sum_log
 use Rattle.air.specs.Constraints.{«lhs_is_0_or_ci_is_pow»}
 use Rattle.air.specs.Constraints.{«rhs_is_0»}
 use Rattle.air.specs.Check.{judgeCheck, firstIn, firstInRows, firstNonzero, checkAll}
-use Rattle.u32_table.specs.Filling.{bitsMinus33Inverse, isEnd, ending, carryAnd, carry, sectionFrom, section, sectionsAt, tableWords, fillReason, fillAll}
+use Rattle.results.specs.Results.{isEnd, ending, carryAnd, carry}
+use Rattle.sections.specs.Sections.{bitsMinus33Inverse, sectionFrom, section, tableWords}
+use Rattle.u32_table.specs.Filling.{sectionsAt, fillReason, fillAll}
 use Rattle.u32_table.specs.Padding.{paddingRow, padReason, padAll}
 use Rattle.u32_table.specs.Extending.{denominatorOk, denominatorsOk, extendReason, sumWords, extendAll}
 use Rattle.text.specs.Lines.{digitsOf, decimal, lineRest, line, headLine, rowLine, sumLine, verdictLine}
-use Rattle.transcript.specs.Transcript.{challengesIn, reading, unlessRefused, rowLines, resultText, callsText, heightText, listText, transcriptOf}
+use Rattle.transcript.specs.Transcript.{challengeBytes, challengesIn, unusedPlaces, unlessRefused, rowLines, openingText, resultText}
+use Rattle.transcript.specs.Transcript.{checkedText, extendedText, paddedText, callsText, heightText, listText, readText, transcriptOf}
 use Rattle.printed_example.specs.PrintedExample.{input, printed}
 
 -- ---- reading
@@ -85,8 +91,8 @@ challenges-are : challengesIn input ≡ challenges
 unfolding challengesIn leAt placesFrom
 challenges-are = refl
 
-reading-is : reading input ≡ record { answer = done (1 ∷ []); list = list }
-unfolding reading readAll readReason torn storedN storedHeight storedEntry storedMultiplicity contentReason admitStored admit judgeEntry isOpcode firstReason occurs repeats tally leAt listShape height heightOf dominant admitted floorLog2 placesFrom sumHeights flatMap
+reading-is : readAll unusedPlaces (drop challengeBytes input) ≡ record { answer = done (1 ∷ []); list = list }
+unfolding readAll readReason torn storedN storedHeight storedEntry storedMultiplicity contentReason admitStored admit judgeEntry isOpcode firstReason occurs repeats tally leAt listShape height heightOf dominant admitted floorLog2 placesFrom sumHeights flatMap
 reading-is = refl
 
 height-is : listHeight list ≡ 3
@@ -98,7 +104,7 @@ unfolding paddedHeight
 padded-height-is = refl
 
 plan-is : planAll list ≡ done (3 ∷ 4 ∷ [])
-unfolding planAll judgedList paddedHeight judgeList listShape judgePlace countFull entryAt keyAt multiplicityAt judgeEntry isOpcode firstReason listHeight getsSection sectionPlacesTo entriesAt sumHeights height heightOf dominant admitted floorLog2
+unfolding planAll paddedHeight judgeList listShape judgePlace countFull entryAt keyAt multiplicityAt judgeEntry isOpcode firstReason listHeight getsSection sectionPlacesTo entriesAt sumHeights height heightOf dominant admitted floorLog2
 plan-is = refl
 
 -- ---- the inverses that occur
@@ -171,5 +177,5 @@ check-is = refl
 
 -- ---- the text
 pub printed-example : transcriptOf input ≡ printed
-unfolding transcriptOf listText heightText callsText unlessRefused resultText rowLines rowAt line lineRest headLine rowLine sumLine verdictLine decimal digitsOf
+unfolding transcriptOf readText listText heightText callsText paddedText extendedText checkedText unlessRefused resultText openingText rowLines rowAt line lineRest headLine rowLine sumLine verdictLine decimal digitsOf
 printed-example = rw (reading-is, challenges-are, plan-is, height-is, padded-height-is, fill-is, pad-is, extend-is, check-is) refl

@@ -15,17 +15,19 @@ use Rattle.words.proofs.LittleEndian.{leAt-bound}
 use Rattle.words.proofs.Sets.{sets-front, take-sets-front}
 use Rattle.isa.specs.Entries.{admitted}
 use Rattle.isa.proofs.Entries.{admissible-fine}
-use Rattle.aet.specs.Lists.{U32List, capacity, used, keyAt, multiplicityAt, entryAt, listShape, judgeList}
-use Rattle.aet.specs.Heights.{sumHeights, listHeight}
-use Rattle.aet.proofs.JudgedLists.{Shaped, shaped, list-admitted, admitted-fine, entry-admissible, list-height-small}
-use Rattle.stored.specs.Stored.{places, storedLength, storedBytes, storedN, storedHeight, storedEntry, storedMultiplicity, storedEntries}
-use Rattle.stored.specs.Stored.{admitStored, repeats, readReason, readAs, readAll, replaced, writeReason, writtenAs, AfterWriting, writeAll}
+use Rattle.lists.specs.Lists.{U32List, capacity, used, keyAt, multiplicityAt, entryAt, listShape, judgeList}
+use Rattle.lists.specs.Heights.{sumHeights, listHeight}
+use Rattle.lists.proofs.JudgedLists.{Shaped, shaped, list-admitted, admitted-fine, entry-admissible, list-height-small}
+use Rattle.lists.specs.Places.{places}
+use Rattle.packed.specs.Packed.{storedLength, storedBytes, storedN, storedHeight, storedEntry, storedMultiplicity, storedEntries}
+use Rattle.repeats.specs.Repeats.{repeats}
+use Rattle.stored.specs.Stored.{admitStored, readReason, readAs, readAll, replaced, writeReason, writtenAs, AfterWriting, writeAll}
 use Rattle.round_trips.specs.RoundTrips.{ReadsBack, WrittenAgain}
-use Rattle.stored.proofs.Places.{length-stored-places, map-cong, flat-cong, section-entries-map}
+use Rattle.packed.proofs.Places.{length-stored-places, map-cong, flat-cong, section-entries-map}
 use Rattle.stored.proofs.Reasons.{Readable, readable, readable-fine, writable, write-fine}
-use Rattle.stored.proofs.Replaced.{keysOf, key-put, multiplicity-put}
+use Rattle.packed.proofs.Replaced.{keysOf, key-put, multiplicity-put}
 use Rattle.stored.proofs.Fits.{length-stored}
-use Rattle.stored.proofs.Format.{keysForm, countsForm, stored-formed, holds-n, holds-height, holds-entry, holds-multiplicity, formed-again}
+use Rattle.packed.proofs.Format.{keysForm, countsForm, stored-formed, holds-n, holds-height, holds-entry, holds-multiplicity, formed-again}
 
 -- ---- an answer other than a refusal
 

@@ -10,15 +10,16 @@ use Rattle.words.specs.Answers.{Answer, done, declined}
 use Rattle.words.specs.declared.Refusal.{Refusal}
 use Rattle.words.specs.declared.Judgement.{Judgement}
 use Rattle.words.specs.declared.Judgement.the-variants.{Fine, Declined}
-use Rattle.aet.specs.Lists.{U32List}
+use Rattle.lists.specs.Lists.{U32List}
 use Rattle.aet.specs.Recording.{After}
 use Rattle.stored.specs.declared.Read.{Read}
 use Rattle.stored.specs.declared.Read.the-variants.{Entries, Refused}
 use Rattle.stored.specs.declared.Written.{Written}
 use Rattle.stored.specs.declared.Written.the-variants.{Length, Refused as WriteRefused}
-use Rattle.stored.specs.Stored.{storedPlaces, storedLength, storedBytes, readReason, readAll, IsRead, writeReason, AfterWriting, writeAll, IsWritten}
+use Rattle.packed.specs.Packed.{storedPlaces, storedLength, storedBytes}
+use Rattle.stored.specs.Stored.{readReason, readAll, IsRead, writeReason, AfterWriting, writeAll, IsWritten}
 use Rattle.round_trips.specs.RoundTrips.{writeThenRead, IsWrittenThenRead, readThenWrite, IsReadThenWritten}
-use Rattle.stored.proofs.Places.{length-stored-places}
+use Rattle.packed.proofs.Places.{length-stored-places}
 use Rattle.stored.proofs.Reasons.{writable}
 use Rattle.round_trips.proofs.RoundTrips.{read-answered, write-answered, read-is, written-is, written-length, written-reads-back, read-writes-back}
 

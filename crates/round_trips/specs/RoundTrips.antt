@@ -6,9 +6,10 @@ use lib.ListN.{length, take, drop}
 use Rattle.words.specs.Answers.{done, declined}
 use Rattle.words.specs.declared.Judgement.{Judgement}
 use Rattle.words.specs.declared.Judgement.the-variants.{Fine, Declined}
-use Rattle.aet.specs.Lists.{U32List, capacity, used, entryAt, multiplicityAt, listShape}
+use Rattle.lists.specs.Lists.{U32List, capacity, used, entryAt, multiplicityAt, listShape}
 use Rattle.aet.specs.Recording.{After}
-use Rattle.stored.specs.Stored.{storedPlaces, storedLength, readReason, readAll, readAnswer, IsRead, writeReason, AfterWriting, writeAll, writtenAnswer, IsWritten}
+use Rattle.packed.specs.Packed.{storedPlaces, storedLength}
+use Rattle.stored.specs.Stored.{readReason, readAll, readAnswer, IsRead, writeReason, AfterWriting, writeAll, writtenAnswer, IsWritten}
 use Rattle.stored.specs.declared.Read.{Read}
 use Rattle.stored.specs.declared.Written.{Written}
 

@@ -1,8 +1,8 @@
 // The two round trips of stored lists, as two calls each: what was written reads back as the same list, and what was accepted is written again
 // to the same bytes. Where the first call refuses, the second is not made.
-ghost use Rattle.aet.specs.Lists.{u32List};
+ghost use Rattle.lists.specs.Lists.{u32List};
 ghost use Rattle.round_trips.specs.RoundTrips.{IsWrittenThenRead, IsReadThenWritten};
-use aet::Sizes;
+use lists::Sizes;
 use stored::Read;
 use stored::Reading;
 use stored::Written;

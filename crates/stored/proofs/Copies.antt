@@ -15,12 +15,15 @@ use Rattle.words.specs.declared.Judgement.the-variants.{Fine, Declined}
 use Rattle.words.proofs.Judgements.{or-first, or-next, or-fine, decline-true, decline-false, first-cong}
 use Rattle.words.proofs.LittleEndian.{leAt-bound}
 use Rattle.isa.specs.Entries.{judgeEntry, admitted}
-use Rattle.aet.specs.Lists.{U32List, u32List, keyAt, multiplicityAt, entryAt, listShape, countFull, judgePlace, judgeList}
-use Rattle.aet.specs.Heights.{sumHeights, listHeight}
-use Rattle.aet.proofs.JudgedLists.{shape-fine}
-use Rattle.stored.specs.Stored.{places, storedN, storedHeight, storedEntry, storedMultiplicity, storedEntries, admitStored, repeats, tally, contentReason}
-use Rattle.stored.proofs.Places.{map-cong, section-entries-map}
-use Rattle.stored.proofs.Replaced.{keysOf, key-put, multiplicity-put}
+use Rattle.lists.specs.Lists.{U32List, u32List, keyAt, multiplicityAt, entryAt, listShape, countFull, judgePlace, judgeList}
+use Rattle.lists.specs.Heights.{sumHeights, listHeight}
+use Rattle.lists.proofs.JudgedLists.{shape-fine}
+use Rattle.lists.specs.Places.{places}
+use Rattle.repeats.specs.Repeats.{repeats}
+use Rattle.packed.specs.Packed.{storedN, storedHeight, storedEntry, storedMultiplicity, storedEntries}
+use Rattle.stored.specs.Stored.{admitStored, tally, contentReason}
+use Rattle.packed.proofs.Places.{map-cong, section-entries-map}
+use Rattle.packed.proofs.Replaced.{keysOf, key-put, multiplicity-put}
 
 -- the list on the arrays
 abbrev pub copy : ℕ → List ℕ → List ℕ → U32List

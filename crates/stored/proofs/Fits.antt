@@ -5,12 +5,14 @@ use Prim.Native.Nat.{ℕ, _≤_}
 use native.Mathlib.Omega.{arith}
 use lib.ListN.{length}
 use Rattle.words.specs.declared.Judgement.the-variants.{Fine}
-use Rattle.aet.specs.Lists.{U32List, used, entryAt, multiplicityAt}
-use Rattle.aet.specs.Heights.{listHeight}
-use Rattle.stored.specs.Stored.{places, storedLength, storedBytes, storedN, storedEntry, storedMultiplicity, readReason, writeReason}
+use Rattle.lists.specs.Lists.{U32List, used, entryAt, multiplicityAt}
+use Rattle.lists.specs.Heights.{listHeight}
+use Rattle.lists.specs.Places.{places}
+use Rattle.packed.specs.Packed.{storedLength, storedBytes, storedN, storedEntry, storedMultiplicity}
+use Rattle.stored.specs.Stored.{readReason, writeReason}
 use Rattle.stored.proofs.Reasons.{readable, writable}
-use Rattle.stored.proofs.Replaced.{keysOf, length-keys-of, length-map}
-use Rattle.stored.proofs.Format.{stored-formed, length-formed}
+use Rattle.packed.proofs.Replaced.{keysOf, length-keys-of, length-map}
+use Rattle.packed.proofs.Format.{stored-formed, length-formed}
 
 pub length-stored : (l : U32List) → length (storedBytes l) ≡ storedLength (used l)
 length-stored l = rw (stored-formed l) (length-formed (entryAt l) (multiplicityAt l) (used l) (listHeight l))

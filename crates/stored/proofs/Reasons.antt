@@ -12,15 +12,17 @@ use Rattle.words.specs.declared.Judgement.the-variants.{Fine, Declined}
 use Rattle.words.specs.declared.Refusal.{Refusal}
 use Rattle.words.specs.declared.Refusal.the-variants.{ListFull, Short, Torn, Repeat, Tally}
 use Rattle.words.proofs.Judgements.{or-first, or-next, or-both, decline-fine, decline-true, decline-false, decline-not-fine, first-fine, first-none}
-use Rattle.aet.specs.Lists.{U32List, u32List, capacity, used, entryAt, listShape, judgeList}
-use Rattle.aet.specs.Heights.{sumHeights}
-use Rattle.aet.proofs.JudgedLists.{Shaped, shaped, shape-fine}
+use Rattle.lists.specs.Lists.{U32List, u32List, capacity, used, entryAt, listShape, judgeList}
+use Rattle.lists.specs.Heights.{sumHeights}
+use Rattle.lists.proofs.JudgedLists.{Shaped, shaped, shape-fine}
 use Rattle.stored.specs.declared.Read.the-variants.{Entries, Refused}
 use Rattle.stored.specs.declared.Written.the-variants.{Length, Refused as WriteRefused}
-use Rattle.stored.specs.Stored.{places, storedPlaces, storedLength, storedBytes, storedN, storedHeight, storedEntry, storedMultiplicity, storedEntries, keyWords}
-use Rattle.stored.specs.Stored.{torn, admitStored, repeats, tally, contentReason, readReason, readAll, IsRead, writeReason, writeAll, IsWritten}
-use Rattle.stored.proofs.Places.{length-stored-places, stored-entries}
-use Rattle.stored.proofs.Repeats.{or-true}
+use Rattle.lists.specs.Places.{places}
+use Rattle.packed.specs.Packed.{storedPlaces, storedLength, storedBytes, storedN, storedHeight, storedEntry, storedMultiplicity, storedEntries, keyWords}
+use Rattle.repeats.specs.Repeats.{repeats}
+use Rattle.stored.specs.Stored.{torn, admitStored, tally, contentReason, readReason, readAll, IsRead, writeReason, writeAll, IsWritten}
+use Rattle.packed.proofs.Places.{length-stored-places, stored-entries}
+use Rattle.repeats.proofs.Repeats.{or-true}
 
 -- ---- bytes that are whole
 

@@ -1,80 +1,29 @@
--- Stored lists (document 01, "Recording and stored lists", from "Stored, little-endian" on, and "Reasons to decline"): the bytes of a list,
--- what bytes hold, reading and writing.
-use Prim.Native.Nat.{ℕ, zero, suc, _+_, _*_}
+-- Stored lists (document 01, "Recording and stored lists" and "Reasons to decline"): reading and writing.
+use Prim.Native.Nat.{ℕ}
 use mathlib.Core.Path.{_≡_}
-use mathlib.Core.Bool.{Bool, false, not, _||_}
-use mathlib.Core.List.{List, [], _∷_, _++_, map, flatMap}
+use mathlib.Core.Bool.{not, _||_}
+use mathlib.Core.List.{List, [], _∷_, map, flatMap}
 use lib.Dec.{eqb, ltb}
 use lib.ListN.{length}
 use lib.Seq.{sets}
 use Rattle.words.specs.Limits.{maxPlaces}
-use Rattle.words.specs.LittleEndian.{leAt, le}
 use Rattle.words.specs.Answers.{Answer, done, declined}
 use Rattle.words.specs.Refusals.{declineIf, orElse, firstReason}
 use Rattle.words.specs.declared.Judgement.{Judgement}
 use Rattle.words.specs.declared.Judgement.the-variants.{Fine, Declined}
 use Rattle.words.specs.declared.Refusal.the-variants.{ListFull, Short, Torn, Repeat, Tally}
 use Rattle.isa.specs.declared.U32TableEntry.{U32TableEntry}
-use Rattle.isa.specs.Entries.{entry, lhs, rhs, judgeEntry}
-use Rattle.aet.specs.Lists.{U32List, u32List, capacity, used, entryAt, multiplicityAt, listShape, judgeList}
-use Rattle.aet.specs.Heights.{entriesAt, sumHeights, listHeight}
-use Rattle.aet.specs.Recording.{sameKey, After}
+use Rattle.isa.specs.Entries.{judgeEntry}
+use Rattle.lists.specs.Lists.{U32List, u32List, capacity, listShape, judgeList}
+use Rattle.lists.specs.Heights.{entriesAt, sumHeights}
+use Rattle.aet.specs.Recording.{After}
+use Rattle.packed.specs.Packed.{storedPlaces, storedLength, storedBytes, storedN, storedHeight, storedEntry, storedMultiplicity, storedEntries, keyWords}
+use Rattle.repeats.specs.Repeats.{repeats}
 use Rattle.stored.specs.declared.Read.{Read}
 use Rattle.stored.specs.declared.Read.the-variants.{Entries, Refused}
 use Rattle.stored.specs.declared.Written.{Written}
 use Rattle.stored.specs.declared.Written.the-variants.{Length, Refused as WriteRefused}
-
--- n places from i on
-unfoldable pub placesFrom : ℕ → ℕ → List ℕ
-placesFrom i zero = []
-placesFrom i (suc n) = i ∷ placesFrom (suc i) n
-
--- the first n places
-abbrev pub places : ℕ → List ℕ
-places n = placesFrom 0 n
-
--- "writing takes N from used": the places of a list that are stored are the used ones, in their order, and N is how many they are
-unfoldable pub storedPlaces : U32List → List ℕ
-storedPlaces l = places (used l)
-
--- "keys (opcode 1 byte, LHS 8, RHS 8)"
-abbrev pub keyWidth : ℕ
-keyWidth = 17
-
--- "multiplicities of 4"
-abbrev pub multiplicityWidth : ℕ
-multiplicityWidth = 4
-
--- "Length is exactly 8 + 21·N."
-abbrev pub storedLength : ℕ → ℕ
-storedLength n = 8 + (keyWidth + multiplicityWidth) * n
-
-unfoldable pub keyBytes : U32TableEntry → List ℕ
-keyBytes e = le 1 (e .opcode) ++ (le 8 (lhs e) ++ le 8 (rhs e))
-
--- "Stored, little-endian: 4 bytes N, 4 bytes height; then N keys ..; then N multiplicities of 4."
-unfoldable pub storedBytes : U32List → List ℕ
-storedBytes l =
-    le 4 (length (storedPlaces l))
-    ++ (le 4 (listHeight l)
-    ++ (flatMap (λ i. keyBytes (entryAt l i)) (storedPlaces l)
-    ++ flatMap (λ i. le multiplicityWidth (multiplicityAt l i)) (storedPlaces l)))
-
--- What bytes hold, read at the same offsets
-unfoldable pub storedN : List ℕ → ℕ
-storedN s = leAt s 0 4
-
-unfoldable pub storedHeight : List ℕ → ℕ
-storedHeight s = leAt s 4 4
-
-unfoldable pub storedEntry : List ℕ → ℕ → U32TableEntry
-storedEntry s i = entry (leAt s (8 + keyWidth * i) 1) (leAt s (9 + keyWidth * i) 8) (leAt s (17 + keyWidth * i) 8)
-
-unfoldable pub storedMultiplicity : List ℕ → ℕ → ℕ
-storedMultiplicity s i = leAt s (8 + keyWidth * storedN s + multiplicityWidth * i) multiplicityWidth
-
-abbrev pub storedEntries : List ℕ → List U32TableEntry
-storedEntries s = map (storedEntry s) (places (storedN s))
+use Rattle.lists.specs.Places.{places}
 
 -- 10: "stored length wrong or N above 2,048". Bytes too few to hold N have a wrong length too: none is shorter than 8
 unfoldable pub torn : List ℕ → Judgement
@@ -83,16 +32,6 @@ torn s = declineIf (ltb maxPlaces (storedN s) || not (eqb (length s) (storedLeng
 -- 2 to 4 for a stored entry, which is taken as it stands in the bytes
 unfoldable pub admitStored : U32TableEntry → Judgement
 admitStored e = judgeEntry e
-
--- whether an entry is among these
-unfoldable pub occurs : U32TableEntry → List U32TableEntry → Bool
-occurs e [] = false
-occurs e (f ∷ fs) = sameKey e f || occurs e fs
-
--- 11: "equal keys in a stored list, or one to be written"
-unfoldable pub repeats : List U32TableEntry → Bool
-repeats [] = false
-repeats (e ∷ es) = occurs e es || repeats es
 
 -- 12: "stored height is not the sum"
 unfoldable pub tally : List ℕ → Judgement
@@ -112,10 +51,6 @@ readReason l s =
     (orElse (torn s)
     (orElse (declineIf (ltb (capacity l) (storedN s)) ListFull)
     (contentReason s)))
-
--- the three words of a key
-abbrev pub keyWords : U32TableEntry → List ℕ
-keyWords e = e .opcode ∷ lhs e ∷ rhs e ∷ []
 
 -- "Reading replaces the list, sets used to N and answers N .. Destination places past N .. are untouched."
 abbrev pub replaced : U32List → List ℕ → U32List

@@ -7,7 +7,7 @@ ghost use Rattle.text.specs.Lines.{decimal, lineRest, headLine, rowLine,
 ghost use Rattle.text.specs.Put.{Put};
 
 // Puts these bytes.
-pub fn put_bytes(out: &mut [u8], at: usize, bytes: &[u8]) -> usize
+fn put_bytes(out: &mut [u8], at: usize, bytes: &[u8]) -> usize
     requires { ⌜ at + length (now bytes) ≤ length (now out) ⌝ }
     ensures { λ r. ⌜ Put (now (out .entry)) at (now (bytes .entry)) (now (out .exit)) r ⌝ }
 {
@@ -20,7 +20,7 @@ pub fn put_bytes(out: &mut [u8], at: usize, bytes: &[u8]) -> usize
 }
 
 // Puts a number in decimal.
-pub fn put_number(out: &mut [u8], at: usize, n: u64) -> usize
+fn put_number(out: &mut [u8], at: usize, n: u64) -> usize
     requires { ⌜ at + length (decimal n) ≤ length (now out) ⌝ }
     ensures { λ r. ⌜ Put (now (out .entry)) at (decimal n) (now (out .exit)) r ⌝ }
 {
@@ -30,7 +30,7 @@ pub fn put_number(out: &mut [u8], at: usize, n: u64) -> usize
 }
 
 // Puts these bytes, then a number in decimal.
-pub fn put_labelled(out: &mut [u8], at: usize, label: &[u8], n: u64) -> usize
+fn put_labelled(out: &mut [u8], at: usize, label: &[u8], n: u64) -> usize
     requires { ⌜ at + length (now label ++ decimal n) ≤ length (now out) ⌝ }
     ensures { λ r. ⌜ Put (now (out .entry)) at (now (label .entry) ++ decimal n) (now (out .exit)) r ⌝ }
 {
@@ -39,7 +39,7 @@ pub fn put_labelled(out: &mut [u8], at: usize, label: &[u8], n: u64) -> usize
 }
 
 // Puts what follows a field of a line: each of these numbers after a space, then the newline.
-pub fn put_rest(out: &mut [u8], at: usize, words: &[u64]) -> usize
+fn put_rest(out: &mut [u8], at: usize, words: &[u64]) -> usize
     requires { ⌜ at + length (lineRest (map decimal (now words))) ≤ length (now out) ⌝ }
     ensures { λ r. ⌜ Put (now (out .entry)) at (lineRest (map decimal (now (words .entry)))) (now (out .exit)) r ⌝ }
 {

@@ -7,25 +7,28 @@ use mathlib.Core.List.{List, [], _∷_}
 use native.Mathlib.Omega.{arith}
 use borrow.Author.Tests.{ltb-false}
 use lib.Dec.{eqb, ltb}
-use lib.ListN.{length, length-append}
+use lib.ListN.{length, drop, length-append}
 use Rattle.words.specs.Limits.{maxInput, maxPrintedRows}
 use Rattle.words.specs.Answers.{Answer}
-use Rattle.words.specs.Refusals.{refusalNumber}
-use Rattle.words.specs.declared.Refusal.the-variants.{Shape, Short, Torn}
 use Rattle.words.specs.declared.Judgement.{Judgement}
 use Rattle.words.specs.declared.Judgement.the-variants.{Fine, Declined}
 use Rattle.xfield.specs.Extension.{Ext, isZeroX}
-use Rattle.aet.specs.Lists.{U32List, used}
-use Rattle.aet.specs.Heights.{listHeight, paddedHeight}
+use Rattle.lists.specs.Lists.{U32List, used}
+use Rattle.lists.specs.Heights.{listHeight}
+use Rattle.aet.specs.Heights.{paddedHeight}
 use Rattle.air.specs.Columns.{Row, rowAt}
 use Rattle.air.specs.Check.{nonzero, firstIn, firstInRows, firstNonzero, judgeCheck, checkedAs, checkAll}
-use Rattle.u32_table.specs.Filling.{rowWords, fillAll}
+use Rattle.sections.specs.Sections.{rowWords}
+use Rattle.u32_table.specs.Filling.{fillAll}
 use Rattle.u32_table.specs.Padding.{padAll}
 use Rattle.u32_table.specs.Extending.{extendReason, extendedAs, extendAll}
-use Rattle.text.specs.Lines.{rowLine, refusedLine}
+use Rattle.text.specs.Lines.{rowLine, verdictLine, refusedLine}
+use Rattle.text.specs.Put.{Put}
 use Rattle.text.proofs.Lengths.{head-bound, row-bound, sum-bound, verdict-bound, refused-bound}
-use Rattle.transcript.specs.Transcript.{challengeBytes, challengesIn, reading, unlessRefused, rowLines, resultText, callsText}
-use Rattle.transcript.specs.Transcript.{heightText, listText, transcriptOf, maxText}
+use Rattle.stored.specs.Stored.{readAll}
+use Rattle.transcript.specs.Transcript.{challengeBytes, challengesIn, unusedPlaces, unlessRefused, rowLines, openingText, resultText}
+use Rattle.transcript.specs.Transcript.{checkedText, extendedText, paddedText, callsText, heightText, listText, readText}
+use Rattle.transcript.specs.Transcript.{transcriptOf, maxText}
 
 -- ---- how many values the calls answer
 
@@ -86,30 +89,59 @@ unless-fits answer text h = go (eqb (answer .number) 0) where
   go true = h
   go false = refused-fits (answer .number)
 
+opening-length : (n height padded : ℕ) (table sum : List ℕ) → length sum ≤ 3
+    → length (openingText n height padded table sum) ≤ 83 + 210 * padded + 67
+unfolding openingText
+opening-length n height padded table sum s =
+    let h = head-bound n height padded in
+    let r = rows-bound table padded in
+    let b = sum-bound sum in
+    simp length-append (omega arith)
+
+-- where the line of the verdict begins
+pub opening-bound : {d d1 : List ℕ} {at next : ℕ} (n height padded : ℕ) (table : List ℕ) (a b c : ℕ)
+    → Put d at (openingText n height padded table (a ∷ b ∷ c ∷ [])) d1 next → next ≤ at + (83 + 210 * padded + 67)
+opening-bound n height padded table a b c p = omega (arith, p .place, opening-length n height padded table (a ∷ b ∷ c ∷ []) (omega arith))
+
+-- and that there is room for it
+pub zero-fits : (at room : ℕ) → at + 134 ≤ room → at + length (verdictLine []) ≤ room
+zero-fits at room h = omega (arith, verdict-bound [])
+
+pub nonzero-fits : (group row index a b c at room : ℕ) → at + 134 ≤ room
+    → at + length (verdictLine (group ∷ row ∷ index ∷ a ∷ b ∷ c ∷ [])) ≤ room
+nonzero-fits group row index a b c at room h = omega (arith, verdict-bound (group ∷ row ∷ index ∷ a ∷ b ∷ c ∷ []))
+
 result-fits : (n height padded : ℕ) (table sum verdict : List ℕ) → padded ≤ maxPrintedRows → length sum ≤ 3 → length verdict ≤ 6
     → length (resultText n height padded table sum verdict) ≤ maxText
 unfolding resultText
 result-fits n height padded table sum verdict p s v =
-    let h = head-bound n height padded in
-    let r = rows-bound table padded in
-    let b = sum-bound sum in
+    let o = opening-length n height padded table sum s in
     let d = verdict-bound verdict in
     simp length-append (omega arith)
+
+module _ (n height padded : ℕ) (few : padded ≤ maxPrintedRows) where
+  checked-fits : (table aux challenges sum : List ℕ) → length sum ≤ 3
+      → length (checkedText n height padded table aux challenges sum) ≤ maxText
+  unfolding checkedText
+  checked-fits table aux challenges sum s =
+      let verdict = checkAll table aux challenges in
+      unless-fits _ _ (result-fits n height padded table sum (verdict .values) few s (check-values table aux challenges))
+
+  extended-fits : (table aux challenges : List ℕ) → length (extendedText n height padded table aux challenges) ≤ maxText
+  unfolding extendedText
+  extended-fits table aux challenges =
+      let extension = extendAll table aux challenges in
+      unless-fits _ _ (checked-fits table (extension .aux) challenges (extension .answer .values) (extension-values table aux challenges))
+
+  padded-fits : (table aux challenges : List ℕ) → length (paddedText n height padded table aux challenges) ≤ maxText
+  unfolding paddedText
+  padded-fits table aux challenges = unless-fits _ _ (extended-fits (padAll table height .table) aux challenges)
 
 calls-fit : (l : U32List) (challenges : List ℕ) (height padded : ℕ) (table aux : List ℕ)
     → padded ≤ maxPrintedRows → length (callsText l challenges height padded table aux) ≤ maxText
 unfolding callsText
-calls-fit l challenges height padded table aux p =
-    let padding = padAll (fillAll l table .table) height in
-    let extension = extendAll (padding .table) aux challenges in
-    let verdict = checkAll (padding .table) (extension .aux) challenges in
-    unless-fits _ _
-    (unless-fits _ _
-    (unless-fits _ _
-    (unless-fits _ _
-    (result-fits (used l) height padded (padding .table) (extension .answer .values) (verdict .values) p
-    (extension-values (padding .table) aux challenges)
-    (check-values (padding .table) (extension .aux) challenges)))))
+calls-fit l challenges height padded table aux few =
+    unless-fits _ _ (padded-fits (used l) height padded few (fillAll l table .table) aux challenges)
 
 -- one of two texts
 cond-fits : (t : Bool) (a b : List ℕ) → length a ≤ maxText → (t ≡ false → length b ≤ maxText) → length (cond t a b) ≤ maxText
@@ -119,7 +151,7 @@ cond-fits false a b h g = g refl
 height-fits : (l : U32List) (challenges : List ℕ) (height padded : ℕ) → length (heightText l challenges height padded) ≤ maxText
 unfolding heightText
 height-fits l challenges height padded =
-    cond-fits (ltb maxPrintedRows padded) _ _ (refused-fits (refusalNumber Short))
+    cond-fits (ltb maxPrintedRows padded) _ _ (refused-fits _)
     (λ e. calls-fit l challenges height padded _ _ (ltb-false maxPrintedRows padded e))
 
 list-fits : (l : U32List) (challenges : List ℕ) → length (listText l challenges) ≤ maxText
@@ -128,11 +160,13 @@ list-fits l challenges = unless-fits _ _ (height-fits l challenges (listHeight l
 
 -- ---- the whole text
 
+read-fits : (bytes challenges : List ℕ) → length (readText bytes challenges) ≤ maxText
+unfolding readText
+read-fits bytes challenges = unless-fits _ _ (list-fits (readAll unusedPlaces bytes .list) challenges)
+
 pub transcript-fits : (input : List ℕ) → length (transcriptOf input) ≤ maxText
 unfolding transcriptOf
 transcript-fits input =
-    let text = unlessRefused (reading input .answer) (listText (reading input .list) (challengesIn input)) in
-    let fits : length text ≤ maxText = unless-fits _ _ (list-fits (reading input .list) (challengesIn input)) in
-    let long = cond (ltb maxInput (length input)) (refusedLine (refusalNumber Torn)) text in
-    cond-fits (ltb (length input) challengeBytes) (refusedLine (refusalNumber Shape)) long (refused-fits (refusalNumber Shape))
-    (λ _. cond-fits (ltb maxInput (length input)) (refusedLine (refusalNumber Torn)) text (refused-fits (refusalNumber Torn)) (λ _. fits))
+    cond-fits (ltb (length input) challengeBytes) _ _ (refused-fits _)
+    (λ _. cond-fits (ltb maxInput (length input)) _ _ (refused-fits _)
+    (λ _. read-fits (drop challengeBytes input) (challengesIn input)))

@@ -7,7 +7,7 @@ use native.Mathlib.Omega.{arith}
 use lib.ListN.{length, getD, take, drop}
 use lib.Seq.{drop-cons}
 use Rattle.air.specs.Columns.{mainWidth, rowAt}
-use Rattle.u32_table.specs.Filling.{rowWords}
+use Rattle.sections.specs.Sections.{rowWords}
 
 -- the k words from place j + o on
 abbrev wordsAt : List ℕ → ℕ → ℕ → ℕ → List ℕ

@@ -1,9 +1,46 @@
-// From the bytes that `u32list` reads to the text that it prints.
+// From the bytes that `u32list` reads to the text that it prints: the calls in a row, and their answers as lines.
 ghost use Prim.Native.Nat.{_+_, _*_, _≤_};
+ghost use mathlib.Core.Path.{_≡_};
 ghost use lib.ListN.{length};
 ghost use Rattle.words.specs.Limits.{maxPrintedRows};
+ghost use Rattle.words.specs.Refusals.{refusalNumber};
+ghost use Rattle.xfield.specs.XFieldElements.{extOf};
+ghost use Rattle.lists.specs.Lists.{u32List};
+ghost use Rattle.u32_table.specs.Extending.{elementWords};
+ghost use Rattle.checker.specs.Verdicts.{verdictAnswer};
+ghost use Rattle.text.specs.Lines.{refusedLine};
 ghost use Rattle.text.specs.Put.{Put};
-ghost use Rattle.transcript.specs.Transcript.{rowLines};
+ghost use Rattle.transcript.specs.Transcript.{challengeBytes, challengesIn, unlessRefused, rowLines, resultText, openingText};
+ghost use Rattle.transcript.specs.Transcript.{checkedText, extendedText, paddedText, callsText, heightText, listText, readText};
+ghost use Rattle.transcript.specs.Transcript.{maxText, IsTranscribed};
+use aet::MAX_PLACES;
+use aet::Planned;
+use aet::Sizes;
+use checker::Verdict;
+use extension::Extended;
+use stored::Read;
+use u32_table::Filled;
+use u32_table::Padded;
+use words::Refusal;
+use xfield::XFieldElement;
+
+// Input bytes before the stored list: fifteen words.
+const CHALLENGE_BYTES: usize = 120;
+
+// Fifteen challenges and 2,048 stored entries: more bytes are refused.
+pub const MAX_INPUT: usize = 43136;
+
+// A higher padded height is not printed.
+const MAX_PRINTED_ROWS: u64 = 512;
+
+// No text is longer.
+pub const MAX_TEXT: usize = 107804;
+
+// The length of the text, or why none was put.
+pub enum Transcribed {
+    Length(usize),
+    Refused(Refusal),
+}
 
 // Puts the lines of the first n rows of a table.
 fn put_rows(out: &mut [u8], at: usize, table: &[u64], n: usize) -> usize
@@ -19,4 +56,233 @@ fn put_rows(out: &mut [u8], at: usize, table: &[u64], n: usize) -> usize
         row += 1;
     }
     next
+}
+
+// The text is a refusal's line alone.
+fn put_reason(out: &mut [u8], reason: Refusal) -> usize
+    requires { ⌜ maxText ≤ length (now out) ⌝ }
+    ensures { λ r. ⌜ Put (now (out .entry)) 0 (refusedLine (refusalNumber reason)) (now (out .exit)) r ⌝ }
+{
+    text::put_refused(out, 0, reason.number())
+}
+
+// Puts the first line, the rows and the sum.
+fn put_opening(
+    out: &mut [u8],
+    n: usize,
+    height: u64,
+    padded: usize,
+    table: &[u64],
+    sum: XFieldElement,
+) -> usize
+    requires { ⌜ (maxText ≤ length (now out)) × (padded ≤ maxPrintedRows) × (10 * padded ≤ length (now table)) ⌝ }
+    ensures { λ r. ⌜ Put (now (out .entry)) 0 (openingText n height padded (now (table .entry)) (elementWords (extOf sum))) (now (out .exit)) r ⌝ }
+{
+    let after_head = text::put_head(out, 0, n as u64, height, padded as u64);
+    let after_rows = put_rows(out, after_head, table, padded);
+    text::put_sum(out, after_rows, sum.0.0, sum.1.0, sum.2.0)
+}
+
+// The text after a check's answer.
+fn put_result(
+    out: &mut [u8],
+    n: usize,
+    height: u64,
+    padded: usize,
+    table: &[u64],
+    sum: XFieldElement,
+    verdict: Verdict,
+) -> usize
+    requires { ⌜ (maxText ≤ length (now out)) × (padded ≤ maxPrintedRows) × (10 * padded ≤ length (now table)) ⌝ }
+    ensures { λ r. ⌜ Put (now (out .entry)) 0 (unlessRefused (verdictAnswer verdict) (resultText n height padded (now (table .entry)) (elementWords (extOf sum)) (verdictAnswer verdict .values))) (now (out .exit)) r ⌝ }
+{
+    match verdict {
+        Verdict::Refused(reason) => put_reason(out, reason),
+        Verdict::Zero => {
+            let next = put_opening(out, n, height, padded, table, sum);
+            text::put_zero(out, next)
+        }
+        Verdict::Nonzero(group, row, index, value) => {
+            let next = put_opening(out, n, height, padded, table, sum);
+            text::put_nonzero(
+                out,
+                next,
+                group,
+                row as u64,
+                index as u64,
+                value.0.0,
+                value.1.0,
+                value.2.0,
+            )
+        }
+    }
+}
+
+// Extends and checks a table.
+fn put_extended(
+    out: &mut [u8],
+    n: usize,
+    height: u64,
+    padded: usize,
+    table: &[u64],
+    aux: &mut [u64],
+    challenges: &[u64],
+) -> usize
+    requires { ⌜ (maxText ≤ length (now out)) × (padded ≤ maxPrintedRows) × (10 * padded ≤ length (now table)) ⌝ }
+    ensures { λ r. ⌜ Put (now (out .entry)) 0 (extendedText n height padded (now (table .entry)) (now (aux .entry)) (now (challenges .entry))) (now (out .exit)) r ⌝ }
+{
+    match extension::extend(table, aux, challenges) {
+        Extended::Refused(reason) => put_reason(out, reason),
+        Extended::Sum(sum) => {
+            let verdict = checker::check(table, aux, challenges);
+            put_result(out, n, height, padded, table, sum, verdict)
+        }
+    }
+}
+
+// Pads a table, then extends and checks it.
+fn put_padded(
+    out: &mut [u8],
+    n: usize,
+    height: u64,
+    padded: usize,
+    table: &mut [u64],
+    aux: &mut [u64],
+    challenges: &[u64],
+) -> usize
+    requires { ⌜ (maxText ≤ length (now out)) × (padded ≤ maxPrintedRows) × (10 * padded ≤ length (now table)) ⌝ }
+    ensures { λ r. ⌜ Put (now (out .entry)) 0 (paddedText n height padded (now (table .entry)) (now (aux .entry)) (now (challenges .entry))) (now (out .exit)) r ⌝ }
+{
+    match u32_table::pad(table, height as usize) {
+        Padded::Refused(reason) => put_reason(out, reason),
+        Padded::Done => put_extended(out, n, height, padded, table, aux, challenges),
+    }
+}
+
+// Makes the four calls on a lent table.
+fn put_calls(
+    out: &mut [u8],
+    sizes: Sizes,
+    keys: &[u64],
+    multiplicities: &[u64],
+    challenges: &[u64],
+    height: u64,
+    padded: usize,
+    table: &mut [u64],
+    aux: &mut [u64],
+) -> usize
+    requires { ⌜ (maxText ≤ length (now out)) × (padded ≤ maxPrintedRows) × (10 * padded ≤ length (now table)) ⌝ }
+    ensures { λ r. ⌜ Put (now (out .entry)) 0 (callsText (u32List sizes (now (keys .entry)) (now (multiplicities .entry))) (now (challenges .entry)) height padded (now (table .entry)) (now (aux .entry))) (now (out .exit)) r ⌝ }
+{
+    match u32_table::fill(sizes, keys, multiplicities, table) {
+        Filled::Refused(reason) => put_reason(out, reason),
+        Filled::Rows(_) => {
+            let n = sizes.used;
+            put_padded(out, n, height, padded, table, aux, challenges)
+        }
+    }
+}
+
+// The text of a list of known height: a table of as many rows as the padded height is lent.
+fn put_height(
+    out: &mut [u8],
+    sizes: Sizes,
+    keys: &[u64],
+    multiplicities: &[u64],
+    challenges: &[u64],
+    height: u64,
+    padded: u64,
+) -> usize
+    requires { ⌜ maxText ≤ length (now out) ⌝ }
+    ensures { λ r. ⌜ Put (now (out .entry)) 0 (heightText (u32List sizes (now (keys .entry)) (now (multiplicities .entry))) (now (challenges .entry)) height padded) (now (out .exit)) r ⌝ }
+{
+    if MAX_PRINTED_ROWS < padded {
+        return put_reason(out, Refusal::Short);
+    }
+    let rows = padded as usize;
+    let words = 10 * rows;
+    let sums = 3 * rows;
+    let mut table = [0u64; 5120];
+    let mut aux = [0u64; 1536];
+    put_calls(
+        out,
+        sizes,
+        keys,
+        multiplicities,
+        challenges,
+        height,
+        rows,
+        &mut table[..words],
+        &mut aux[..sums],
+    )
+}
+
+// The text of a list.
+fn put_list(
+    out: &mut [u8],
+    sizes: Sizes,
+    keys: &[u64],
+    multiplicities: &[u64],
+    challenges: &[u64],
+) -> usize
+    requires { ⌜ maxText ≤ length (now out) ⌝ }
+    ensures { λ r. ⌜ Put (now (out .entry)) 0 (listText (u32List sizes (now (keys .entry)) (now (multiplicities .entry))) (now (challenges .entry))) (now (out .exit)) r ⌝ }
+{
+    match aet::plan(sizes, keys, multiplicities) {
+        Planned::Refused(reason) => put_reason(out, reason),
+        Planned::Heights { height, padded } => {
+            put_height(out, sizes, keys, multiplicities, challenges, height, padded)
+        }
+    }
+}
+
+// The text of a stored list, which is read onto 2,048 places.
+fn put_stored(out: &mut [u8], bytes: &[u8], challenges: &[u64]) -> usize
+    requires { ⌜ maxText ≤ length (now out) ⌝ }
+    ensures { λ r. ⌜ Put (now (out .entry)) 0 (readText (now (bytes .entry)) (now (challenges .entry))) (now (out .exit)) r ⌝ }
+{
+    let mut keys = [0u64; 6144];
+    let mut multiplicities = [0u64; 2048];
+    let sizes = Sizes {
+        capacity: MAX_PLACES,
+        used: 0,
+    };
+    let reading = stored::read_list(bytes, sizes, &mut keys, &mut multiplicities);
+    let after = reading.sizes;
+    let answer = reading.answer;
+    match answer {
+        Read::Refused(reason) => put_reason(out, reason),
+        Read::Entries(_) => put_list(out, after, &keys, &multiplicities, challenges),
+    }
+}
+
+// The fifteen words at the front of the input.
+fn challenges_in(input: &[u8]) -> [u64; 15]
+    requires { ⌜ challengeBytes ≤ length (now input) ⌝ }
+    ensures { λ r. ⌜ r ≡ challengesIn (now (input .entry)) ⌝ }
+{
+    let mut challenges = [0u64; 15];
+    let mut i: usize = 0;
+    while i < 15 {
+        challenges[i] = words::word_at(input, 8 * i);
+        i += 1;
+    }
+    challenges
+}
+
+// Puts the text for these input bytes at the front of `out`, and answers its length.
+pub fn transcript(input: &[u8], out: &mut [u8]) -> Transcribed
+    ensures { λ r. ⌜ IsTranscribed (now (input .entry)) (now (out .entry)) r (now (out .exit)) ⌝ }
+{
+    if out.len() < MAX_TEXT {
+        return Transcribed::Refused(Refusal::Short);
+    }
+    if input.len() < CHALLENGE_BYTES {
+        return Transcribed::Length(put_reason(out, Refusal::Shape));
+    }
+    if MAX_INPUT < input.len() {
+        return Transcribed::Length(put_reason(out, Refusal::Torn));
+    }
+    let challenges = challenges_in(input);
+    Transcribed::Length(put_stored(out, &input[CHALLENGE_BYTES..], &challenges))
 }

@@ -4,11 +4,10 @@
 use Prim.Native.Nat.{ℕ}
 use mathlib.Core.Path.{_≡_}
 use mathlib.Core.List.{List, [], _∷_}
-use Rattle.field.specs.Elements.{subF, mulF}
 use Rattle.xfield.specs.Extension.{Ext, subX, mulX, scaleX}
 use Rattle.xfield.specs.XFieldElements.{extOf}
 use Rattle.air.specs.Columns.{Row}
-use Rattle.air.specs.Constraints.{oneMinusProduct, ciIsPow, equalBits, baseValue}
+use Rattle.air.specs.Constraints.{_⊖_, _⊗_, oneMinusProduct, ciIsPow, equalBits, baseValue}
 use Rattle.air.specs.Constraints.{«if_copy_flag_next_is_1_then_lhs_is_0_or_ci_is_pow»}
 use Rattle.air.specs.Constraints.{«if_copy_flag_next_is_1_then_rhs_is_0»}
 use Rattle.air.specs.Constraints.{«if_copy_flag_next_is_0_then_ci_stays»}
@@ -38,14 +37,6 @@ use Rattle.transitions.specs.declared.AndLog2FloorTransition.{AndLog2Flo
 use Rattle.transitions.specs.declared.PowPopCountTransition.{PowPopCountTransition}
 use Rattle.transitions.specs.declared.BaseTransition.{BaseTransition}
 use Rattle.transitions.specs.declared.RunningSumTransition.{RunningSumTransition}
-
-infixl 60 _⊖_
-infixl 70 _⊗_
-abbrev _⊖_ : ℕ → ℕ → ℕ
-a ⊖ b = subF a b
-
-abbrev _⊗_ : ℕ → ℕ → ℕ
-a ⊗ b = mulF a b
 
 pub record LeastBitsOf (lhs lhsNext rhs rhsNext : ℕ) (r : LeastBits) : Type 0 where
   pub lhs-bit : r .lhs .0 ≡ lhs ⊖ 2 ⊗ lhsNext

@@ -13,13 +13,14 @@ use lib.Seq.{sets}
 use Rattle.words.specs.declared.Judgement.the-variants.{Fine}
 use Rattle.words.proofs.Sets.{sets-then}
 use Rattle.isa.specs.Entries.{lhs, rhs, height}
-use Rattle.aet.specs.Lists.{U32List, used, entryAt, multiplicityAt, judgeList}
-use Rattle.aet.specs.Heights.{getsSection, sectionPlacesTo, sectionPlaces, listHeight}
-use Rattle.aet.proofs.JudgedLists.{entry-admissible, every-place, places-more, places-same}
-use Rattle.aet.proofs.JudgedLists.{heightTo, height-more, height-same, height-none, height-to-mono, list-height}
+use Rattle.lists.specs.Lists.{U32List, used, entryAt, multiplicityAt, judgeList}
+use Rattle.lists.specs.Heights.{getsSection, sectionPlacesTo, sectionPlaces, listHeight}
+use Rattle.lists.proofs.JudgedLists.{entry-admissible, every-place, places-more, places-same}
+use Rattle.lists.proofs.JudgedLists.{heightTo, height-more, height-same, height-none, height-to-mono, list-height}
 use Rattle.air.specs.Columns.{Row}
-use Rattle.u32_table.specs.Filling.{Section, rows, noSection, section, joined, sectionsAt, rowWords, tableWords, sectionWords}
-use Rattle.u32_table.proofs.Sections.{HasRows, section-rows}
+use Rattle.sections.specs.Sections.{Section, rows, noSection, section, rowWords, tableWords, sectionWords}
+use Rattle.u32_table.specs.Filling.{joined, sectionsAt}
+use Rattle.sections.proofs.Sections.{HasRows, section-rows}
 
 -- ---- words
 

@@ -9,7 +9,6 @@ use lib.Dec.{eqb}
 use lib.ListN.{length, getD, replicate, length-replicate, replicate-append-replicate}
 use lib.Seq.{sets}
 use borrow.Author.Tests.{lt-ltb, le-ltb}
-use Rattle.words.specs.Refusals.{declineIf}
 use Rattle.words.specs.declared.Refusal.{Refusal}
 use Rattle.words.specs.declared.Refusal.the-variants.{Shape, Short, Unreduced}
 use Rattle.words.specs.declared.Judgement.the-variants.{Fine, Declined}
@@ -17,10 +16,10 @@ use Rattle.words.proofs.Judgements.{decline-true, decline-false, decline-not-tr
 use Rattle.words.proofs.Sets.{sets-then}
 use Rattle.isa.specs.Opcodes.{opLt}
 use Rattle.air.specs.Columns.{Row, rowAt, rowCount, tableShape, allReduced}
-use Rattle.u32_table.specs.Filling.{bitsMinus33Inverse, bitsMinus33Inverses, rowWords, tableWords}
+use Rattle.sections.specs.Sections.{bitsMinus33Inverse, bitsMinus33Inverses, rowWords, tableWords}
 use Rattle.u32_table.specs.Padding.{paddingRow, lastFilled, padReason, padAll, IsPadded}
 use Rattle.u32_table.specs.declared.Padded.the-variants.{Done, Refused}
-use Rattle.u32_table.proofs.BitsMinus33.{bits-minus-33}
+use Rattle.sections.proofs.BitsMinus33.{bits-minus-33}
 use Rattle.u32_table.proofs.ListSections.{words-append, words-length}
 
 -- ---- the last filled row and the padding row
@@ -74,21 +73,21 @@ module _ (table : List ℕ) (filled : ℕ) where
   unfolding padAll
   refused e = rw e (record { answer = refl; table = refl })
 
-  pub pad-shape : {k : Refusal} → declineIf (not (tableShape table)) Shape ≡ Declined k → IsPadded (padAll table filled) (Refused k) table
+  pub pad-shape : tableShape table ≡ false → IsPadded (padAll table filled) (Refused Shape) table
   unfolding padReason
-  pad-shape e = refused (or-first _ e)
+  pad-shape e = refused (or-first _ (decline-true Shape (ap not e)))
 
-  module _ (shape : declineIf (not (tableShape table)) Shape ≡ Fine) where
+  module _ (shape : tableShape table ≡ true) where
     pub pad-short : rowCount table < filled → IsPadded (padAll table filled) (Refused Short) table
     unfolding padReason
-    pad-short h = refused (or-next _ shape ∙ or-first _ (decline-true Short (lt-ltb _ _ h)))
+    pad-short h = refused (or-next _ (decline-not-true Shape shape) ∙ or-first _ (decline-true Short (lt-ltb _ _ h)))
 
     module _ (room : filled ≤ rowCount table) where
       pub pad-unreduced : allReduced (rowWords (lastFilled table filled)) ≡ false
           → IsPadded (padAll table filled) (Refused Unreduced) table
       unfolding padReason
       pad-unreduced h =
-          refused (or-next _ shape ∙ or-next _ (decline-false Short (le-ltb _ _ room)) ∙ decline-true Unreduced (ap not h))
+          refused (or-next _ (decline-not-true Shape shape) ∙ or-next _ (decline-false Short (le-ltb _ _ room)) ∙ decline-true Unreduced (ap not h))
 
       pub pad-done : {after : List ℕ} → allReduced (rowWords (lastFilled table filled)) ≡ true
           → after ≡ sets table (10 * filled) (tableWords (replicate (rowCount table - filled) (paddingRow (lastFilled table filled))))
@@ -96,5 +95,5 @@ module _ (table : List ℕ) (filled : ℕ) where
       unfolding padReason padAll
       pad-done {after} h e =
           let j : padReason table filled ≡ Fine =
-          or-next _ shape ∙ or-next _ (decline-false Short (le-ltb _ _ room)) ∙ decline-not-true Unreduced h in
+          or-next _ (decline-not-true Shape shape) ∙ or-next _ (decline-false Short (le-ltb _ _ room)) ∙ decline-not-true Unreduced h in
           rw j (record { answer = refl; table = e })

@@ -1,4 +1,3 @@
 pub mod Filling
 pub mod Padding
 pub mod Extending
-pub mod PendingRows

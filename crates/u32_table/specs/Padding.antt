@@ -14,7 +14,8 @@ use Rattle.words.specs.declared.Judgement.the-variants.{Fine, Declined}
 use Rattle.words.specs.declared.Refusal.the-variants.{Shape, Short, Unreduced}
 use Rattle.isa.specs.Opcodes.{opSplit, opLt}
 use Rattle.air.specs.Columns.{Row, mainWidth, rowAt, rowCount, tableShape, allReduced}
-use Rattle.u32_table.specs.Filling.{bitsMinus33Inverse, rowWords, tableWords, TableAfter}
+use Rattle.sections.specs.Sections.{bitsMinus33Inverse, rowWords, tableWords}
+use Rattle.u32_table.specs.Filling.{TableAfter}
 use Rattle.u32_table.specs.declared.Padded.{Padded}
 use Rattle.u32_table.specs.declared.Padded.the-variants.{Done, Refused}
 

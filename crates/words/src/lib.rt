@@ -6,6 +6,15 @@ ghost use lib.Seq.{sets};
 ghost use Rattle.words.specs.Refusals.{refusalNumber};
 ghost use Rattle.words.specs.LittleEndian.{leAt, le};
 
+// A list has at most this many places.
+pub const MAX_PLACES: usize = 2048;
+
+// A table has at most this many rows.
+pub const MAX_ROWS: usize = 131072;
+
+// No multiplicity is above this.
+pub const MULTIPLICITY_LIMIT: u64 = 4294967295;
+
 // Document 01's "Reasons to decline", in its order.
 pub enum Refusal {
     Shape,

@@ -6,10 +6,11 @@ use native.Mathlib.Omega.{arith}
 use borrow.Author.Needs.{needs}
 use Rattle.words.specs.Answers.{done, declined}
 use Rattle.words.specs.declared.Refusal.{Refusal}
-use Rattle.aet.specs.declared.Judged.the-variants.{Height, Refused}
-use Rattle.aet.specs.Lists.{U32List}
-use Rattle.aet.specs.Heights.{paddedHeight, judgedList, planAll}
-use Rattle.aet.proofs.JudgedLists.{judged-height, judged-refused, list-height-small}
+use Rattle.lists.specs.declared.Judged.the-variants.{Height, Refused}
+use Rattle.lists.specs.Lists.{U32List}
+use Rattle.lists.specs.Heights.{judgedList}
+use Rattle.aet.specs.Heights.{paddedHeight, planAll}
+use Rattle.lists.proofs.JudgedLists.{judged-height, judged-refused, list-height-small}
 use Rattle.aet.proofs.plan.Statement.{statement}
 use Rattle.aet.proofs.plan.Tie as tie
 

@@ -46,14 +46,14 @@ use denote.Triple.Walked.{says, Stays, stay-ref, stay-none, gave-slice, walkOf, 
 use denote.Triple.Walked.{Walks, ends-at, walked, walk-meets}
 use denote.Exit.{yes}
 use denote.Signature.{plain}
-use Rattle.aet.specs.declared.Sizes.{Sizes}
+use Rattle.lists.specs.declared.Sizes.{Sizes}
 use Rattle.aet.specs.declared.Recorded.{Recorded}
 use Rattle.aet.specs.declared.Recording.{Recording}
 use Rattle.isa.specs.Entries.{entry}
-use Rattle.aet.specs.Lists.{u32List}
+use Rattle.lists.specs.Lists.{u32List}
 use Rattle.aet.specs.Recording.{recordAll, IsRecorded}
-use Rattle.aet.proofs.Sizes as S
-use Rattle.aet.proofs.Sizes.Laws as S′
+use Rattle.lists.proofs.Sizes as S
+use Rattle.lists.proofs.Sizes.Laws as S′
 use Rattle.aet.proofs.Recorded as E
 use Rattle.aet.proofs.Recorded.Laws as E′
 use Rattle.aet.proofs.Recording as G

@@ -12,13 +12,14 @@ use Rattle.words.specs.declared.Refusal.{Refusal}
 use Rattle.words.specs.declared.Refusal.the-variants.{CountFull, ListFull}
 use Rattle.isa.specs.declared.U32TableEntry.{U32TableEntry}
 use Rattle.isa.specs.Entries.{judgeEntry, admitted}
-use Rattle.aet.specs.declared.Sizes.{Sizes}
+use Rattle.lists.specs.declared.Sizes.{Sizes}
 use Rattle.aet.specs.declared.Recorded.{Recorded}
 use Rattle.aet.specs.declared.Recorded.the-variants.{Refused}
 use Rattle.aet.specs.declared.Recording.{Recording}
-use Rattle.aet.specs.Lists.{U32List, u32List, capacity, used, multiplicityAt, listShape}
-use Rattle.aet.specs.Recording.{findFrom, findKey, After, raised, appended, recordAll, IsRecorded}
-use Rattle.aet.proofs.JudgedLists.{shaped, admitted-told, refused-told}
+use Rattle.lists.specs.Lists.{U32List, u32List, capacity, used, multiplicityAt, listShape}
+use Rattle.lists.specs.Keys.{findFrom, findKey}
+use Rattle.aet.specs.Recording.{After, raised, appended, recordAll, IsRecorded}
+use Rattle.lists.proofs.JudgedLists.{shaped, admitted-told, refused-told}
 use Rattle.aet.proofs.RecordingCases.{shape-declined, entry-declined, count-full, key-gains, list-full, key-appended}
 use Rattle.aet.proofs.record_u32_table_entry_by_value.Statement.{statement}
 use Rattle.aet.proofs.record_u32_table_entry_by_value.Tie as tie

@@ -1,31 +1,63 @@
--- `extension::denominator_ok` meets its contract: the inverse that is computed is zero exactly where there is none. Assumes nothing.
-use mathlib.Core.Path.{refl, ap, _∙_}
-use mathlib.Core.Bool.{not, Bool·not-not}
-use borrow.Author.Needs.{needs}
+-- `extension::denominator_ok` meets its contract: the two cases of the definition. Assumes nothing.
+use mathlib.Core.Path.{_≡_, refl, sym, ap, _∙_}
+use mathlib.Core.Logic.{_↔_}
+use mathlib.Core.Bool.{Bool, true, false}
+use lib.Dec.{T}
 use borrow.Author.Tests.{eq-eqb, ne-eqb}
-use Rattle.xfield.specs.Extension.{isZeroX}
-use Rattle.xfield.proofs.Laws.{isZeroX-invX}
-use Rattle.layout.specs.Layouts.{rowOf}
+use Rattle.xfield.specs.Extension.{Ext, HasInverse}
+use Rattle.xfield.proofs.Inverses.{invertible, invertible-yes, invertible-no}
+use Rattle.air.specs.Columns.{rowAt}
+use Rattle.air.specs.Challenges.{rowDenominator}
+use Rattle.layout.specs.Layouts.{challengesIn}
 use Rattle.u32_table.specs.Extending.{denominatorOk}
+use borrow.Author.Needs.{needs}
 use Rattle.extension.proofs.denominator_ok.Statement.{statement}
 use Rattle.extension.proofs.denominator_ok.Tie as tie
 
-inverse-of-denominator-requires : tie.Need-inverse-of-denominator-requires
-inverse-of-denominator-requires c κs = search needs
+as-invertible : (x : Ext) (b : Bool) → T b ↔ HasInverse x → b ≡ invertible x
+as-invertible x true h = sym (invertible-yes x (h .0 tt))
+as-invertible x false h = sym (invertible-no x (h .1))
 
-is-zero-requires : tie.Need-is-zero-requires
-is-zero-requires c κs = search needs
+mul-if1 : tie.Need-mul-if1
+mul-if1 c = search needs
+
+mul-if1-2 : tie.Need-mul-if1-2
+mul-if1-2 c = search needs
+
+shared-slice-read-if1 : tie.Need-shared-slice-read-if1
+shared-slice-read-if1 c = search needs
 
 returns : tie.Need-returns
-unfolding denominatorOk rowOf
+unfolding denominatorOk rowAt
 returns c = rw (ne-eqb _ 1 (c .if1 .taken))
 
+at-requires : tie.Need-at-requires
+at-requires c κs = search needs
+
+denominator-of-requires : tie.Need-denominator-of-requires
+denominator-of-requires c κs = search needs
+
+is-invertible-requires : tie.Need-is-invertible-requires
+is-invertible-requires c κs = search needs
+
 returns-2 : tie.Need-returns-2
-unfolding denominatorOk rowOf
+unfolding denominatorOk rowAt
 returns-2 c =
-    rw (eq-eqb _ 1 (c .before .before .if1 .left))
-    (ap not (c .is-zero .ensures ∙ ap isZeroX (c .before .inverse-of-denominator .ensures) ∙ isZeroX-invX _) ∙ Bool·not-not _)
+    let args = c .before .before .before .before .before .before .args in
+    let at = c .before .before .at in
+    rw (eq-eqb _ 1 (c .before .before .before .if1 .left))
+    (as-invertible _ _ (c .is-invertible .ensures) ∙ ap invertible (c .before .denominator-of .ensures)
+    ∙ ap (λ row. invertible (rowDenominator (challengesIn (args .challenges)) row)) (at .ensures))
 
 pub denominator-ok-spec : {M : Type 1} → statement M
 denominator-ok-spec =
-    tie.close (tie.spec inverse-of-denominator-requires is-zero-requires returns returns-2)
+    tie.close
+    (tie.spec
+    mul-if1
+    mul-if1-2
+    shared-slice-read-if1
+    at-requires
+    denominator-of-requires
+    is-invertible-requires
+    returns
+    returns-2)

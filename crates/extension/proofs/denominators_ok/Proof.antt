@@ -26,19 +26,15 @@ loop-holds : tie.Need-loop-holds Inv-loop μ-loop
 unfolding denominatorsOk
 loop-holds c = (refl, search needs)
 
-at-requires : tie.Need-at-requires Inv-loop μ-loop
-at-requires c κs = search needs
-
 denominator-ok-requires : tie.Need-denominator-ok-requires Inv-loop μ-loop
 denominator-ok-requires c κs = search needs
 
 returns : tie.Need-returns Inv-loop μ-loop
 returns c =
-    let args = c .before .before .before .before .before .before .before .before .args in
-    let loop = c .before .before .before .before .loop in
+    let args = c .before .before .before .before .before .before .before .args in
+    let loop = c .before .before .before .loop in
     let summand =
-    row-summand (args .table .now) (args .challenges .now) (loop .judged) (c .before .before .at .ensures)
-    (c .before .before .before .before .before .from-words .ensures) in
+    row-summand (args .table .now) (args .challenges .now) (loop .judged) refl (c .before .before .before .before .from-words .ensures) in
     sym
     (denominators-not-ok _ _ (loop .judged) (search needs)
     (ap denominatorOk (sym summand) ∙ sym (c .before .denominator-ok .ensures) ∙ not-true _ (c .if1 .taken)))
@@ -51,11 +47,10 @@ loop-less c = search needs
 
 loop-again : tie.Need-loop-again Inv-loop μ-loop
 loop-again c =
-    let args = c .before .before .before .before .before .before .before .before .args in
-    let loop = c .before .before .before .before .loop in
+    let args = c .before .before .before .before .before .before .before .args in
+    let loop = c .before .before .before .loop in
     let summand =
-    row-summand (args .table .now) (args .challenges .now) (loop .judged) (c .before .before .at .ensures)
-    (c .before .before .before .before .before .from-words .ensures) in (
+    row-summand (args .table .now) (args .challenges .now) (loop .judged) refl (c .before .before .before .before .from-words .ensures) in (
       denominators-more _ (loop .judged) (loop .inv .0)
           (ap denominatorOk (sym summand) ∙ sym (c .before .denominator-ok .ensures) ∙ not-false _ (c .if1 .left)),
       search needs,
@@ -76,7 +71,6 @@ denominators-ok-spec =
     μ-loop
     from-words-requires
     loop-holds
-    at-requires
     denominator-ok-requires
     returns
     add-judged

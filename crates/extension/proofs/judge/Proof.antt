@@ -2,7 +2,8 @@
 use mathlib.Core.Path.{sym, _∙_}
 use borrow.Author.Needs.{needs}
 use borrow.Author.Tests.{not-true, not-false}
-use Rattle.extension.proofs.Reasons.{no-shape, unreduced, flat, fine, shaped}
+use Rattle.air.proofs.Rows.{shaped}
+use Rattle.extension.proofs.Reasons.{no-shape, unreduced, flat, fine}
 use Rattle.extension.proofs.judge.Statement.{statement}
 use Rattle.extension.proofs.judge.Tie as tie
 

@@ -30,9 +30,6 @@ loop-holds : tie.Need-loop-holds Inv-loop μ-loop
 unfolding runningSum sumWords
 loop-holds c = (search needs, refl, refl, refl)
 
-at-requires : tie.Need-at-requires Inv-loop μ-loop
-at-requires c κs = search needs
-
 add-row-requires : tie.Need-add-row-requires Inv-loop μ-loop
 add-row-requires c κs = search needs
 
@@ -41,8 +38,8 @@ put-sum-requires c κs = search needs
 
 add-written : tie.Need-add-written Inv-loop μ-loop
 add-written c =
-    let taken = c .before .before .before .before .before .before .loop-test .taken in
-    let good = c .before .before .before .before .before .before .before .before .before .before .before .before .good in
+    let taken = c .before .before .before .before .before .loop-test .taken in
+    let good = c .before .before .before .before .before .before .before .before .before .before .before .good in
     search needs
 
 loop-less : tie.Need-loop-less Inv-loop μ-loop
@@ -50,19 +47,18 @@ loop-less c = search needs
 
 loop-again : tie.Need-loop-again Inv-loop μ-loop
 loop-again c =
-    let args = c .before .before .before .before .before .before .before .before .before .before .before .before .args in
-    let from-words = c .before .before .before .before .before .before .before .before .from-words in
-    let loop = c .before .before .before .before .before .before .before .loop in
-    let at = c .before .before .before .before .before .at in
+    let args = c .before .before .before .before .before .before .before .before .before .before .before .args in
+    let from-words = c .before .before .before .before .before .before .before .from-words in
+    let loop = c .before .before .before .before .before .before .loop in
     let add-row = c .before .before .before .before .add-row in
     let put-sum = c .before .before .put-sum in
     let table = args .table .now in
     let challenges = args .challenges .now in
     let s = summandAt table challenges in
-    let taken = c .before .before .before .before .before .before .loop-test .taken in
+    let taken = c .before .before .before .before .before .loop-test .taken in
     let next =
     sum-turn s (loop .written) (loop .inv .2)
-    (add-row .ensures ∙ ap (addSummand (extOf (loop .sum))) (row-summand table challenges (loop .written) (at .ensures) (from-words .ensures))) in (
+    (add-row .ensures ∙ ap (addSummand (extOf (loop .sum))) (row-summand table challenges (loop .written) refl (from-words .ensures))) in (
       search needs,
       put-sum .kept .0 ∙ loop .inv .1,
       next,
@@ -92,7 +88,6 @@ write-sums-spec =
     μ-loop
     from-words-requires
     loop-holds
-    at-requires
     add-row-requires
     put-sum-requires
     add-written

@@ -2,7 +2,7 @@
 -- comparison of heights find what the definition finds. Assumes nothing.
 use mathlib.Core.Path.{refl, sym, _∙_}
 use borrow.Author.Needs.{needs}
-use Rattle.aet.proofs.JudgedLists.{judged-height, judged-refused}
+use Rattle.lists.proofs.JudgedLists.{judged-height, judged-refused}
 use Rattle.stored.proofs.Copies.{content-declined, content-repeat, content-other, content-fine}
 use Rattle.stored.proofs.judge_content.Statement.{statement}
 use Rattle.stored.proofs.judge_content.Tie as tie

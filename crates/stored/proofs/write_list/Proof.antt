@@ -3,7 +3,7 @@
 use mathlib.Core.Path.{sym, _∙_}
 use native.Mathlib.Omega.{arith}
 use borrow.Author.Needs.{needs}
-use Rattle.aet.proofs.JudgedLists.{list-admitted, judged-height, judged-refused}
+use Rattle.lists.proofs.JudgedLists.{list-admitted, judged-height, judged-refused}
 use Rattle.stored.proofs.Reasons.{write-list, write-repeat, write-short, write-fine, written-refused, written-done}
 use Rattle.stored.proofs.write_list.Statement.{statement}
 use Rattle.stored.proofs.write_list.Tie as tie

@@ -15,15 +15,16 @@ use Rattle.isa.specs.declared.Admission.{Admission}
 use Rattle.isa.specs.declared.Admission.the-variants.{Admitted}
 use Rattle.isa.specs.Entries.{admit, height}
 use Rattle.isa.proofs.Entries.{height-bound}
-use Rattle.aet.specs.Lists.{U32List, u32List, used, keyAt, entryAt, multiplicityAt, judgeList}
-use Rattle.aet.specs.Heights.{sectionPlaces, listHeight}
-use Rattle.aet.proofs.JudgedLists.{list-admitted, admitted-told, refused-told, entry-admissible, every-place}
-use Rattle.aet.proofs.JudgedLists.{heightTo, height-none, height-more, list-height}
+use Rattle.lists.specs.Lists.{U32List, u32List, used, keyAt, entryAt, multiplicityAt, judgeList}
+use Rattle.lists.specs.Heights.{sectionPlaces, listHeight}
+use Rattle.lists.proofs.JudgedLists.{list-admitted, admitted-told, refused-told, entry-admissible, every-place}
+use Rattle.lists.proofs.JudgedLists.{heightTo, height-none, height-more, list-height}
 use Rattle.air.specs.Columns.{Row}
-use Rattle.u32_table.specs.declared.Choice.{Choice}
-use Rattle.u32_table.specs.declared.Choice.the-variants.{Unknown}
+use Rattle.results.specs.declared.Choice.{Choice}
+use Rattle.results.specs.declared.Choice.the-variants.{Unknown}
 use Rattle.u32_table.specs.declared.Filled.the-variants.{Rows}
-use Rattle.u32_table.specs.Filling.{Section, section, topResult, joined, sectionsAt, tableWords, sectionWords}
+use Rattle.sections.specs.Sections.{Section, section, topResult, tableWords, sectionWords}
+use Rattle.u32_table.specs.Filling.{joined, sectionsAt}
 use Rattle.u32_table.proofs.ListSections.{sectionAt, rowsTo, rows-none, section-at, room-at, words-turn, joined-rows}
 use Rattle.u32_table.proofs.fill_sections.Statement.{statement}
 use Rattle.u32_table.proofs.fill_sections.Tie as tie
@@ -65,25 +66,28 @@ module _ (l : U32List) (fine : judgeList l ≡ Fine) where
       f ∙ ap (λ (q : List Row). sets before 0 (tableWords q)) same
 
 abbrev Inv-loop : tie.InvT-loop
-Inv-loop sizes keys multiplicities table₀ inverses row₀ place₀ table row place =
+Inv-loop sizes keys multiplicities table₀ inverses small row₀ place₀ table row place =
     (place ≤ sizes .used) × (length table ≡ length table₀) × (row ≡ heightTo (u32List sizes keys multiplicities) place)
     × (table ≡ sets table₀ 0 (tableWords (rowsTo (u32List sizes keys multiplicities) place)))
 
 abbrev μ-loop : tie.MeasureT-loop
-μ-loop sizes keys multiplicities table₀ inverses row₀ place₀ table row place = sizes .used - place
+μ-loop sizes keys multiplicities table₀ inverses small row₀ place₀ table row place = sizes .used - place
 
 bits-minus-33-inverses-requires : tie.Need-bits-minus-33-inverses-requires Inv-loop μ-loop
 bits-minus-33-inverses-requires c κs = search needs
 
+small-inverses-requires : tie.Need-small-inverses-requires Inv-loop μ-loop
+small-inverses-requires c κs = search needs
+
 loop-holds : tie.Need-loop-holds Inv-loop μ-loop
 loop-holds c =
-    let s = c .before .before .before .before in
+    let s = c .before .before .before .before .before in
     let l = u32List (s .args .sizes) (s .args .keys .now) (s .args .multiplicities .now) in
     (search needs, refl, sym (height-none l), no-words l (s .args .table .now))
 
 key-at-requires : tie.Need-key-at-requires Inv-loop μ-loop
 key-at-requires c κs =
-    let s = c .before .before .before .before .before .before .before in
+    let s = c .before .before .before .before .before .before .before .before in
     let l = u32List (s .args .sizes) (s .args .keys .now) (s .args .multiplicities .now) in
     let fits = list-admitted l (s .pre .0) .shape in
     omega arith
@@ -96,30 +100,31 @@ enum-known-e c = search needs
 
 mul-fill-entry : tie.Need-mul-fill-entry Inv-loop μ-loop
 mul-fill-entry c =
-    let s = c .before .before .before .before .before .before .before .before .before .before .before .before .before in
+    let s = c .before .before .before .before .before .before .before .before .before .before .before .before .before .before in
     let l = u32List (s .args .sizes) (s .args .keys .now) (s .args .multiplicities .now) in
     let fits = list-admitted l (s .pre .0) .shape in
     omega arith
 
 shared-slice-read-fill-entry : tie.Need-shared-slice-read-fill-entry Inv-loop μ-loop
 shared-slice-read-fill-entry c =
-    let s = c .before .before .before .before .before .before .before .before .before .before .before .before .before .before in
+    let s = c .before .before .before .before .before .before .before .before .before .before .before .before .before .before .before in
     let l = u32List (s .args .sizes) (s .args .keys .now) (s .args .multiplicities .now) in
     let fits = list-admitted l (s .pre .0) .shape in
     omega arith
 
 fill-entry-requires : tie.Need-fill-entry-requires Inv-loop μ-loop
 fill-entry-requires c κs =
-    let e = c .before .before .before .before in
+    let e = c .before .before .before .before .before in
     let a = e .before .before in
     let k = a .before in
     let t = k .before in
     let p = t .before .before in
-    let b = p .before in
+    let m = p .before in
+    let b = m .before in
     let s = b .before .before .before .before in
     let l = u32List (s .args .sizes) (s .args .keys .now) (s .args .multiplicities .now) in
     let f = section-fits l (s .pre .0) _ _ _ (t .if1 .taken) (at-place l _ (k .key-at .ensures _ _) (a .admit .ensures) (e .e .given .1)) (p .loop .inv .2) (s .pre .1) in
-    (omega (arith, f .0, p .loop .inv .1), (f .1, b .bits-minus-33-inverses .ensures))
+    (omega (arith, f .0, p .loop .inv .1), (f .1, b .bits-minus-33-inverses .ensures, m .small-inverses .ensures))
 
 enum-told : tie.Need-enum-told Inv-loop μ-loop
 enum-told c = search needs
@@ -130,19 +135,19 @@ enum-told-2 c = search needs
 same-length : tie.Need-same-length Inv-loop μ-loop
 same-length c =
     let f = c .before .before .before .before in
-    let p = f .before .before .before .before .before .before .before .before .before .before .before in
+    let p = f .before .before .before .before .before .before .before .before .before .before .before .before in
     f .fill-entry .kept .0 ∙ p .loop .inv .1
 
 returns : tie.Need-returns Inv-loop μ-loop
 unfolding multiplicityAt
 returns c =
     let f = c .before .before .before .before in
-    let e = f .before .before .before .before .before in
+    let e = f .before .before .before .before .before .before in
     let a = e .before .before in
     let k = a .before in
     let t = k .before in
     let p = t .before .before in
-    let s = p .before .before .before .before .before in
+    let s = p .before .before .before .before .before .before in
     let l = u32List (s .args .sizes) (s .args .keys .now) (s .args .multiplicities .now) in
     let same = ap (λ (y : U32TableEntry). section y (multiplicityAt l (p .loop .place))) (at-place l _ (k .key-at .ensures _ _) (a .admit .ensures) (e .e .given .1)) in
     absurd (has-value l (s .pre .0) _ (t .if1 .taken) same (f .fill-entry .ensures .0) (c .enum-told2 .given .1))
@@ -152,12 +157,12 @@ table-height-contribution-requires c κs = search needs
 
 add-row : tie.Need-add-row Inv-loop μ-loop
 add-row c =
-    let e = c .before .before .before .before .before .before .before .before .before .before in
+    let e = c .before .before .before .before .before .before .before .before .before .before .before in
     let a = e .before .before in
     let k = a .before in
     let t = k .before in
     let p = t .before .before in
-    let s = p .before .before .before .before .before in
+    let s = p .before .before .before .before .before .before in
     let l = u32List (s .args .sizes) (s .args .keys .now) (s .args .multiplicities .now) in
     let f = section-fits l (s .pre .0) _ _ _ (t .if1 .taken) (at-place l _ (k .key-at .ensures _ _) (a .admit .ensures) (e .e .given .1)) (p .loop .inv .2) (s .pre .1) in
     omega (arith, f .0, c .table-height-contribution .ensures .0)
@@ -174,7 +179,7 @@ returns-2 c =
     let a = r .before .before in
     let k = a .before in
     let t = k .before in
-    let s = t .before .before .before .before .before .before .before in
+    let s = t .before .before .before .before .before .before .before .before in
     let l = u32List (s .args .sizes) (s .args .keys .now) (s .args .multiplicities .now) in
     absurd
     (fine-not-declined
@@ -191,12 +196,12 @@ loop-again : tie.Need-loop-again Inv-loop μ-loop
 unfolding multiplicityAt
 loop-again c =
     let f = c .before .before .before .before .before in
-    let e = f .before .before .before .before .before in
+    let e = f .before .before .before .before .before .before in
     let a = e .before .before in
     let k = a .before in
     let t = k .before in
     let p = t .before .before in
-    let s = p .before .before .before .before .before in
+    let s = p .before .before .before .before .before .before in
     let l = u32List (s .args .sizes) (s .args .keys .now) (s .args .multiplicities .now) in
     let i = p .loop .inv in
     let x = at-place l _ (k .key-at .ensures _ _) (a .admit .ensures) (e .e .given .1) in
@@ -213,7 +218,7 @@ same-length-3 c = c .before .before .loop .inv .1
 returns-3 : tie.Need-returns-3 Inv-loop μ-loop
 returns-3 c =
     let p = c .before .before in
-    let s = p .before .before .before .before .before in
+    let s = p .before .before .before .before .before .before in
     let l = u32List (s .args .sizes) (s .args .keys .now) (s .args .multiplicities .now) in
     let i = p .loop .inv in
     let all : p .loop .place ≡ used l = omega arith in
@@ -226,6 +231,7 @@ fill-sections-spec =
     Inv-loop
     μ-loop
     bits-minus-33-inverses-requires
+    small-inverses-requires
     loop-holds
     key-at-requires
     admit-requires

@@ -9,7 +9,7 @@ use lib.Seq.{sets}
 use borrow.Author.Needs.{needs}
 use borrow.Author.Tests.{not-true, not-false}
 use Rattle.air.specs.Columns.{Row, rowCount, allReduced}
-use Rattle.u32_table.specs.Filling.{rowWords, tableWords}
+use Rattle.sections.specs.Sections.{rowWords, tableWords}
 use Rattle.u32_table.specs.Padding.{lastFilled, paddingRow}
 use Rattle.u32_table.proofs.Paddings.{pad-start, pad-turn, pad-shape, pad-short, pad-unreduced, pad-done}
 use Rattle.u32_table.proofs.pad.Statement.{statement}
@@ -23,20 +23,14 @@ Inv-loop table₀ filled rows padding row₀ table row =
 abbrev μ-loop : tie.MeasureT-loop
 μ-loop table₀ filled rows padding row₀ table row = rows - row
 
-table-shape-requires : tie.Need-table-shape-requires Inv-loop μ-loop
-table-shape-requires c κs = search needs
-
-enum-known-reason : tie.Need-enum-known-reason Inv-loop μ-loop
-enum-known-reason c = search needs
+has-shape-requires : tie.Need-has-shape-requires Inv-loop μ-loop
+has-shape-requires c κs = search needs
 
 same-length : tie.Need-same-length Inv-loop μ-loop
 same-length c = search needs
 
 returns : tie.Need-returns Inv-loop μ-loop
-returns c = pad-shape _ _ (sym (c .before .before .before .table-shape .ensures) ∙ c .before .reason .given .1)
-
-enum-told : tie.Need-enum-told Inv-loop μ-loop
-enum-told c = search needs
+returns c = pad-shape _ _ (sym (c .before .has-shape .ensures) ∙ not-true _ (c .if1 .taken))
 
 same-length-2 : tie.Need-same-length-2 Inv-loop μ-loop
 same-length-2 c = search needs
@@ -44,8 +38,8 @@ same-length-2 c = search needs
 returns-2 : tie.Need-returns-2 Inv-loop μ-loop
 returns-2 c =
     let t = c .before in
-    let h = t .before .before in
-    pad-short _ _ (sym (h .table-shape .ensures) ∙ t .enum-told .given .1) (c .if1 .taken)
+    let h = t .before in
+    pad-short _ _ (sym (h .has-shape .ensures) ∙ not-false _ (t .if1 .left)) (c .if2 .taken)
 
 last-filled-requires : tie.Need-last-filled-requires Inv-loop μ-loop
 last-filled-requires c κs = search needs
@@ -65,17 +59,17 @@ returns-3 c =
     let l = a .before .before in
     let r = l .before .before in
     let t = r .before in
-    let h = t .before .before in
+    let h = t .before in
     let s = h .before .before .before in
-    pad-unreduced (s .args .table .now) (s .args .filled) (sym (h .table-shape .ensures) ∙ t .enum-told .given .1) (r .if1 .left)
-    (sym (ap allReduced (l .last-filled .ensures)) ∙ sym (a .all-reduced .ensures) ∙ not-true _ (c .if2 .taken))
+    pad-unreduced (s .args .table .now) (s .args .filled) (sym (h .has-shape .ensures) ∙ not-false _ (t .if1 .left)) (r .if2 .left)
+    (sym (ap allReduced (l .last-filled .ensures)) ∙ sym (a .all-reduced .ensures) ∙ not-true _ (c .if3 .taken))
 
 padding-row-requires : tie.Need-padding-row-requires Inv-loop μ-loop
 padding-row-requires c κs = search needs
 
 loop-holds : tie.Need-loop-holds Inv-loop μ-loop
 loop-holds c =
-    let s = c .before .before .before .before .before .before .before .before .before .before .before .before in
+    let s = c .before .before .before .before .before .before .before .before .before .before .before in
     (search needs, search needs, refl, λ r e. pad-start (s .args .table .now) (s .args .filled) r)
 
 mul-put-row : tie.Need-mul-put-row Inv-loop μ-loop
@@ -115,12 +109,12 @@ returns-4 c =
     let l = a .before .before in
     let r = l .before .before in
     let t = r .before in
-    let h = t .before .before in
+    let h = t .before in
     let s = h .before .before .before in
     let old = s .args .table .now in
     let filled = s .args .filled in
     let all : p .loop .row ≡ rowCount old = omega arith in
-    pad-done old filled (sym (h .table-shape .ensures) ∙ t .enum-told .given .1) (r .if1 .left) (sym (ap allReduced (l .last-filled .ensures)) ∙ sym (a .all-reduced .ensures) ∙ not-false _ (u .if2 .left))
+    pad-done old filled (sym (h .has-shape .ensures) ∙ not-false _ (t .if1 .left)) (r .if2 .left) (sym (ap allReduced (l .last-filled .ensures)) ∙ sym (a .all-reduced .ensures) ∙ not-false _ (u .if3 .left))
     (rw (← all)
     (p .loop .inv .3 (paddingRow (lastFilled old filled)) (q .padding-row .ensures (lastFilled old filled) (l .last-filled .ensures))))
 
@@ -130,11 +124,9 @@ pad-spec =
     (tie.spec
     Inv-loop
     μ-loop
-    table-shape-requires
-    enum-known-reason
+    has-shape-requires
     same-length
     returns
-    enum-told
     same-length-2
     returns-2
     last-filled-requires

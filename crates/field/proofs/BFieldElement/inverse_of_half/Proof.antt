@@ -11,14 +11,15 @@ use Rattle.field.proofs.BFieldElement.inverse_of_half.Tie as tie
 add-requires : tie.Need-add-requires
 add-requires c κs = search needs
 
-inverse-or-zero-requires : tie.Need-inverse-or-zero-requires
-inverse-or-zero-requires c κs = search needs
+inverse-by-table-requires : tie.Need-inverse-by-table-requires
+inverse-by-table-requires c κs = search needs
 
 returns : tie.Need-returns
-returns c = λ given. c .add .ensures ∙ ap (λ (n : ℕ). addF n n) given ∙ invF-half (c .before .before .args .x) (omega arith)
+returns c =
+    λ table given. c .add .ensures ∙ ap (λ (n : ℕ). addF n n) given ∙ invF-half (c .before .before .args .x) (omega arith)
 
 returns-2 : tie.Need-returns-2
-returns-2 c = λ given. c .inverse-or-zero .ensures
+returns-2 c = λ table given. c .inverse-by-table .ensures table
 
 pub inverse-of-half-spec : {M : Type 1} → statement M
-inverse-of-half-spec = tie.close (tie.spec add-requires inverse-or-zero-requires returns returns-2)
+inverse-of-half-spec = tie.close (tie.spec add-requires inverse-by-table-requires returns returns-2)

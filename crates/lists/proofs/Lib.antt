@@ -1,0 +1,2 @@
+pub mod JudgedLists
+pub mod Finding

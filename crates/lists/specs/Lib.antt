@@ -1,0 +1,4 @@
+pub mod Lists
+pub mod Heights
+pub mod Keys
+pub mod Places

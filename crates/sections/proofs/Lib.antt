@@ -1,0 +1,3 @@
+pub mod BitsMinus33
+pub mod Sections
+pub mod PendingRows

@@ -1,0 +1,250 @@
+-- The text that is due after each call: from what the call's contract says of its answer and of what it left, and the text that was put
+-- then. Assumes nothing.
+use Prim.Native.Nat.{ℕ, zero, suc, _-_, _*_, _≤_, _<_}
+use mathlib.Core.Path.{_≡_, refl, sym, ap, _∙_}
+use mathlib.Core.Bool.{Bool, true, false}
+use mathlib.Core.List.{List, [], _∷_, map, append-nil}
+use native.Mathlib.Omega.{arith}
+use borrow.Author.Tests.{ltb-false, lt-ltb, le-ltb}
+use lib.Dec.{eqb, ltb}
+use lib.ListN.{length, getD, take, drop, length-replicate, length-drop}
+use lib.Seq.{sets, length-sets, take-all}
+use Rattle.words.specs.Limits.{maxInput, maxPrintedRows}
+use Rattle.words.specs.LittleEndian.{leAt}
+use Rattle.words.specs.Answers.{Answer, done, declined}
+use Rattle.words.specs.Refusals.{refusalNumber, declineIf}
+use Rattle.words.specs.declared.Refusal.{Refusal}
+use Rattle.words.specs.declared.Refusal.the-variants.{Shape, Stranger, Wide, BareLog, CountFull, ListFull}
+use Rattle.words.specs.declared.Refusal.the-variants.{Short, Unreduced, Flat, Torn, Repeat, Tally}
+use Rattle.words.specs.declared.Judgement.{Judgement}
+use Rattle.words.specs.declared.Judgement.the-variants.{Fine, Declined}
+use Rattle.words.proofs.Sets.{sets-front}
+use Rattle.xfield.specs.declared.XFieldElement.{XFieldElement}
+use Rattle.xfield.specs.XFieldElements.{extOf}
+use Rattle.lists.specs.Lists.{U32List, used, judgeList}
+use Rattle.aet.specs.declared.Planned.{Planned}
+use Rattle.aet.specs.declared.Planned.the-variants.{Heights, Refused as PlanRefused}
+use Rattle.lists.specs.Heights.{listHeight}
+use Rattle.aet.specs.Heights.{paddedHeight, plannedAs, planAll, plannedAnswer}
+use Rattle.aet.specs.Recording.{After}
+use Rattle.air.specs.Columns.{mainWidth, auxWidth}
+use Rattle.air.specs.Challenges.{challengeWords}
+use Rattle.air.specs.Check.{nonzero, checkAll}
+use Rattle.checker.specs.declared.Verdict.{Verdict}
+use Rattle.checker.specs.declared.Verdict.the-variants.{Zero, Nonzero, Refused as VerdictRefused}
+use Rattle.checker.specs.Verdicts.{verdictAnswer}
+use Rattle.extension.specs.declared.Extended.the-variants.{Sum, Refused as ExtendedRefused}
+use Rattle.extension.specs.Extensions.{IsExtended}
+use Rattle.u32_table.specs.declared.Filled.the-variants.{Rows, Refused as FilledRefused}
+use Rattle.u32_table.specs.declared.Padded.the-variants.{Done, Refused as PaddedRefused}
+use Rattle.u32_table.specs.Filling.{TableAfter, IsFilled, fillAll}
+use Rattle.u32_table.specs.Padding.{IsPadded, padAll}
+use Rattle.u32_table.specs.Extending.{AuxAfter, elementWords, extendAll}
+use Rattle.stored.specs.declared.Read.the-variants.{Entries, Refused as ReadRefused}
+use Rattle.lists.specs.Places.{places}
+use Rattle.stored.specs.Stored.{readAll, IsRead}
+use Rattle.packed.proofs.Replaced.{length-map}
+use Rattle.text.specs.Lines.{verdictLine, refusedLine}
+use Rattle.text.specs.Put.{Put}
+use Rattle.text.proofs.Putting.{put-then}
+use Rattle.transcript.specs.declared.Transcribed.the-variants.{Length, Refused}
+use Rattle.transcript.specs.Transcript.{challengeBytes, challengesIn, zeros, unusedPlaces, unlessRefused, openingText, resultText}
+use Rattle.transcript.specs.Transcript.{checkedText, extendedText, paddedText, callsText, heightText, listText, readText}
+use Rattle.transcript.specs.Transcript.{transcriptOf, maxText, transcribeReason, transcribedAs, transcribeAll, IsTranscribed}
+use Rattle.transcript.proofs.Fits.{transcript-fits}
+
+-- ---- a call that is refused, and one that is made
+
+pub reason-not-zero : (reason : Refusal) → eqb (refusalNumber reason) 0 ≡ false
+reason-not-zero Shape = refl
+reason-not-zero Stranger = refl
+reason-not-zero Wide = refl
+reason-not-zero BareLog = refl
+reason-not-zero CountFull = refl
+reason-not-zero ListFull = refl
+reason-not-zero Short = refl
+reason-not-zero Unreduced = refl
+reason-not-zero Flat = refl
+reason-not-zero Torn = refl
+reason-not-zero Repeat = refl
+reason-not-zero Tally = refl
+
+module _ {d d1 : List ℕ} {r : ℕ} where
+  refused : {due : Answer} (text : List ℕ) (reason : Refusal) → declined reason ≡ due
+      → Put d 0 (refusedLine (refusalNumber reason)) d1 r → Put d 0 (unlessRefused due text) d1 r
+  unfolding unlessRefused
+  refused text reason e p = rw (← e, reason-not-zero reason) p
+
+  made : {due : Answer} (text vs : List ℕ) → done vs ≡ due → Put d 0 text d1 r → Put d 0 (unlessRefused due text) d1 r
+  unfolding unlessRefused
+  made text vs e p = rw (← e) p
+
+-- ---- the check
+
+-- what is put after the verdict v
+abbrev due : (n height padded : ℕ) (table sum : List ℕ) (v : Verdict) → List ℕ
+due n height padded table sum v = unlessRefused (verdictAnswer v) (resultText n height padded table sum (verdictAnswer v .values))
+
+module _ {d d1 : List ℕ} {r : ℕ} (n height padded : ℕ) (table sum : List ℕ) (v : Verdict) where
+  pub result-refused : (reason : Refusal) → v ≡ VerdictRefused reason → Put d 0 (refusedLine (refusalNumber reason)) d1 r
+      → Put d 0 (due n height padded table sum v) d1 r
+  result-refused reason e p = rw e (refused _ reason refl p)
+
+  pub result-zero : {d2 : List ℕ} {a : ℕ} → v ≡ Zero → Put d 0 (openingText n height padded table sum) d2 a
+      → Put d2 a (verdictLine []) d1 r → Put d 0 (due n height padded table sum v) d1 r
+  unfolding resultText
+  result-zero e p q = rw e (made _ [] refl (put-then p q))
+
+  pub result-nonzero : {d2 : List ℕ} {a : ℕ} (group row index : ℕ) (value : XFieldElement) → v ≡ Nonzero group row index value
+      → Put d 0 (openingText n height padded table sum) d2 a
+      → Put d2 a (verdictLine (group ∷ row ∷ index ∷ elementWords (extOf value))) d1 r → Put d 0 (due n height padded table sum v) d1 r
+  unfolding resultText
+  result-nonzero group row index value e p q = rw e (made _ (nonzero group row index (extOf value) .values) refl (put-then p q))
+
+-- ---- the other calls
+
+module _ {d d1 : List ℕ} {r : ℕ} (n height padded : ℕ) (table aux challenges : List ℕ) where
+  pub extension-refused : (reason : Refusal) (after : List ℕ) → IsExtended (extendAll table aux challenges) (ExtendedRefused reason) after
+      → Put d 0 (refusedLine (refusalNumber reason)) d1 r → Put d 0 (extendedText n height padded table aux challenges) d1 r
+  unfolding extendedText
+  extension-refused reason after e p = refused _ reason (e .answer) p
+
+  pub extension-made : (sum : XFieldElement) (after : List ℕ) (v : Verdict)
+      → IsExtended (extendAll table aux challenges) (Sum sum) after → verdictAnswer v ≡ checkAll table after challenges
+      → Put d 0 (due n height padded table (elementWords (extOf sum)) v) d1 r → Put d 0 (extendedText n height padded table aux challenges) d1 r
+  unfolding extendedText checkedText
+  extension-made sum after v e k p =
+      let values : elementWords (extOf sum) ≡ extendAll table aux challenges .answer .values = ap (λ (a : Answer). a .values) (e .answer) in
+      made _ (elementWords (extOf sum)) (e .answer) (rw (← values, ← e .aux, ← k) p)
+
+  pub padding-refused : (reason : Refusal) (after : List ℕ) → IsPadded (padAll table height) (PaddedRefused reason) after
+      → Put d 0 (refusedLine (refusalNumber reason)) d1 r → Put d 0 (paddedText n height padded table aux challenges) d1 r
+  unfolding paddedText
+  padding-refused reason after e p = refused _ reason (e .answer) p
+
+  pub padding-made : (after : List ℕ) → IsPadded (padAll table height) Done after
+      → Put d 0 (extendedText n height padded after aux challenges) d1 r → Put d 0 (paddedText n height padded table aux challenges) d1 r
+  unfolding paddedText
+  padding-made after e p = made _ [] (e .answer) (rw (← e .table) p)
+
+module _ {d d1 : List ℕ} {r : ℕ} (l : U32List) (challenges : List ℕ) where
+  module _ (height padded : ℕ) (table aux : List ℕ) where
+    pub filling-refused : (reason : Refusal) (after : List ℕ) → IsFilled (fillAll l table) (FilledRefused reason) after
+        → Put d 0 (refusedLine (refusalNumber reason)) d1 r → Put d 0 (callsText l challenges height padded table aux) d1 r
+    unfolding callsText
+    filling-refused reason after e p = refused _ reason (e .answer) p
+
+    pub filling-made : (rows : ℕ) (after : List ℕ) → IsFilled (fillAll l table) (Rows rows) after
+        → Put d 0 (paddedText (used l) height padded after aux challenges) d1 r
+        → Put d 0 (callsText l challenges height padded table aux) d1 r
+    unfolding callsText
+    filling-made rows after e p = made _ (rows ∷ []) (e .answer) (rw (← e .table) p)
+
+  -- a padded height over 512, and one that is not
+  pub height-refused : (height padded : ℕ) → maxPrintedRows < padded
+      → Put d 0 (refusedLine (refusalNumber Short)) d1 r → Put d 0 (heightText l challenges height padded) d1 r
+  unfolding heightText
+  height-refused height padded h p = rw (lt-ltb maxPrintedRows padded h) p
+
+  pub height-printed : (height padded : ℕ) (table aux : List ℕ) → padded ≤ maxPrintedRows
+      → table ≡ zeros (mainWidth * padded) → aux ≡ zeros (auxWidth * padded)
+      → Put d 0 (callsText l challenges height padded table aux) d1 r → Put d 0 (heightText l challenges height padded) d1 r
+  unfolding heightText
+  height-printed height padded table aux h t a p = rw (le-ltb maxPrintedRows padded h, ← t, ← a) p
+
+  pub plan-refused : (plan : Planned) (reason : Refusal) → plannedAnswer plan ≡ planAll l → plan ≡ PlanRefused reason
+      → Put d 0 (refusedLine (refusalNumber reason)) d1 r → Put d 0 (listText l challenges) d1 r
+  unfolding listText
+  plan-refused plan reason e k p = refused _ reason (rw k at e) p
+
+  pub plan-made : (plan : Planned) (height padded : ℕ) → plannedAnswer plan ≡ planAll l → plan ≡ Heights height padded
+      → Put d 0 (heightText l challenges height padded) d1 r → Put d 0 (listText l challenges) d1 r
+  unfolding listText planAll
+  plan-made plan height padded e k p = made _ (height ∷ padded ∷ []) (rw k at e) (go (judgeList l) (rw k at e)) where
+    go : (j : Judgement) → done (height ∷ padded ∷ []) ≡ plannedAs j (listHeight l)
+        → Put d 0 (heightText l challenges (listHeight l) (paddedHeight (listHeight l))) d1 r
+    go Fine k =
+        let h : height ≡ listHeight l = ap (λ (a : Answer). getD (a .values) 0 0) k in
+        let q : padded ≡ paddedHeight (listHeight l) = ap (λ (a : Answer). getD (a .values) 1 0) k in
+        rw (← q, ← h) p
+    go (Declined reason) k = absurd (let v = ap (λ (a : Answer). length (a .values)) k in omega arith)
+
+module _ {d d1 : List ℕ} {r : ℕ} (bytes challenges : List ℕ) (after : U32List) where
+  pub reading-refused : (reason : Refusal) → IsRead (readAll unusedPlaces bytes) (ReadRefused reason) after
+      → Put d 0 (refusedLine (refusalNumber reason)) d1 r → Put d 0 (readText bytes challenges) d1 r
+  unfolding readText
+  reading-refused reason e p = refused _ reason (e .answer) p
+
+  pub reading-made : (n : ℕ) → IsRead (readAll unusedPlaces bytes) (Entries n) after
+      → Put d 0 (listText after challenges) d1 r → Put d 0 (readText bytes challenges) d1 r
+  unfolding readText
+  reading-made n e p = made _ (n ∷ []) (e .answer) (rw (← e .list) p)
+
+-- ---- the whole
+
+module _ (input out : List ℕ) where
+  pub short-out : length out < maxText → IsTranscribed input out (Refused Short) out
+  unfolding transcribeAll transcribeReason
+  short-out h = record {
+    answer = rw (lt-ltb (length out) maxText h);
+    bytes = rw (lt-ltb (length out) maxText h);
+    fits = transcript-fits input;
+  }
+
+  module _ {after : List ℕ} {r : ℕ} (room : maxText ≤ length out) where
+    pub text-put : Put out 0 (transcriptOf input) after r → IsTranscribed input out (Length r) after
+    unfolding transcribeAll transcribeReason
+    text-put p =
+        let e : r ≡ length (transcriptOf input) = omega (arith, p .place) in
+        record {
+          answer = rw (le-ltb (length out) maxText room, e);
+          bytes = rw (le-ltb (length out) maxText room) (p .held);
+          fits = transcript-fits input;
+        }
+
+    pub short-input : length input < challengeBytes → Put out 0 (refusedLine (refusalNumber Shape)) after r
+        → IsTranscribed input out (Length r) after
+    unfolding transcriptOf
+    short-input h p = text-put (rw (lt-ltb (length input) challengeBytes h) p)
+
+    pub long-input : challengeBytes ≤ length input → maxInput < length input → Put out 0 (refusedLine (refusalNumber Torn)) after r
+        → IsTranscribed input out (Length r) after
+    unfolding transcriptOf
+    long-input g h p = text-put (rw (le-ltb (length input) challengeBytes g, lt-ltb maxInput (length input) h) p)
+
+    pub stored-input : (challenges : List ℕ) → challengeBytes ≤ length input → length input ≤ maxInput → challenges ≡ challengesIn input
+        → Put out 0 (readText (take (length input - challengeBytes) (drop challengeBytes input)) challenges) after r
+        → IsTranscribed input out (Length r) after
+    unfolding transcriptOf
+    stored-input challenges g h e p =
+        let rest = take-all (length input - challengeBytes) (drop challengeBytes input) (omega (arith, length-drop challengeBytes input)) in
+        text-put (rw (le-ltb (length input) challengeBytes g, le-ltb maxInput (length input) h, ← e) (rw rest at p))
+
+  -- an answer that is a length is within the bytes
+  pub text-within : (n : ℕ) (after : List ℕ) → IsTranscribed input out (Length n) after → n ≤ length after
+  unfolding transcribeAll transcribeReason
+  text-within n after t = go (ltb (length out) maxText) refl (t .answer) (t .bytes) where
+    go : (b : Bool) → ltb (length out) maxText ≡ b → done (n ∷ []) ≡ transcribedAs (declineIf b Short) input out .answer
+        → after ≡ transcribedAs (declineIf b Short) input out .out → n ≤ length after
+    go true e a o = absurd (let v = ap (λ (x : Answer). length (x .values)) a in omega arith)
+    go false e a o =
+        let k : n ≡ length (transcriptOf input) = ap (λ (x : Answer). getD (x .values) 0 0) a in
+        let l : length after ≡ length out = ap length o ∙ length-sets out 0 (transcriptOf input) in
+        omega (arith, ltb-false (length out) maxText e, t .fits)
+
+-- ---- buffers
+
+-- a part of a buffer of zeros
+pub take-zeros : (n m : ℕ) → n ≤ m → take n (zeros m) ≡ zeros n
+take-zeros zero m h = refl
+take-zeros (suc n) zero h = absurd (omega arith)
+take-zeros (suc n) (suc m) h = ap (λ (l : List ℕ). 0 ∷ l) (take-zeros n m (omega arith))
+
+pub length-zeros : (n m : ℕ) → n ≤ m → length (take n (zeros m)) ≡ n
+length-zeros n m h = ap length (take-zeros n m h) ∙ length-replicate n 0
+
+-- fifteen words that are stored one by one
+pub fifteen : (m : ℕ → ℕ) → sets (zeros challengeWords) 0 (map m (places challengeWords)) ≡ map m (places challengeWords)
+fifteen m =
+    let e = length-map m 0 challengeWords in
+    sets-front (map m (places challengeWords)) (zeros challengeWords) (omega arith) ∙ rw e (append-nil _)

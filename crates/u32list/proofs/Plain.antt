@@ -1,0 +1,147 @@
+-- What `u32list` prints is `plainText` (prints-plainly): of the calls, only reading and extension refuse, and the check's answer is zero. A list that
+-- was read is admitted, since it can be written again (round_trips); so the plan and fill do not refuse, and the rest is the claim over the
+-- four calls (honest). Assumes nothing.
+use Prim.Native.Nat.{ℕ, _+_, _*_, _/_, _%_, _≤_, _<_}
+use mathlib.Core.Path.{_≡_, refl, sym, ap, _∙_}
+use mathlib.Core.Bool.{Bool, true, false, cond}
+use mathlib.Core.List.{List, [], _∷_}
+use native.Mathlib.Omega.{arith}
+use borrow.Author.Tests.{ltb-false, le-ltb, eq-eqb, eqb-true, eqb-false}
+use lib.Dec.{eqb, ltb}
+use lib.ListN.{length, getD, drop, length-replicate}
+use lib.Seq.{getD-drop}
+use Rattle.words.specs.Limits.{maxRows, maxInput, maxPrintedRows}
+use Rattle.words.specs.Answers.{Answer, done, declined}
+use Rattle.words.specs.Refusals.{refusalNumber, declineIf, orElse}
+use Rattle.words.specs.declared.Refusal.the-variants.{Shape, Short, Torn}
+use Rattle.words.specs.declared.Judgement.{Judgement}
+use Rattle.words.specs.declared.Judgement.the-variants.{Fine, Declined}
+use Rattle.lists.specs.Lists.{U32List, used, judgeList}
+use Rattle.lists.specs.Heights.{listHeight}
+use Rattle.aet.specs.Heights.{paddedHeight, planAll}
+use Rattle.aet.specs.Recording.{After}
+use Rattle.aet.proofs.PaddedHeight.{padded-at-least, padded-positive}
+use Rattle.stored.specs.Stored.{readReason, readAs, readAll}
+use Rattle.stored.proofs.Reasons.{writable}
+use Rattle.round_trips.proofs.RoundTrips.{read-is, write-answered, read-writes-back}
+use Rattle.air.specs.Columns.{mainWidth, auxWidth, rowCount, tableShape}
+use Rattle.air.specs.Check.{checkAll}
+use Rattle.u32_table.specs.Filling.{fillReason, fillAll}
+use Rattle.u32_table.specs.Padding.{padAll}
+use Rattle.u32_table.specs.Extending.{extendAll}
+use Rattle.honest.specs.FourCalls.{paddedTable, NoneRefuses}
+use Rattle.honest.proofs.Calls.{fill-answer}
+use Rattle.honest.proofs.FourCalls.{four-calls, after-fill}
+use Rattle.text.specs.Lines.{refusedLine}
+use Rattle.transcript.specs.Transcript.{challengeBytes, challengesIn, zeros, unusedPlaces, unlessRefused, resultText}
+use Rattle.transcript.specs.Transcript.{checkedText, extendedText, paddedText, callsText, heightText, listText, readText, transcriptOf}
+use Rattle.transcript.proofs.Steps.{reason-not-zero}
+use Rattle.u32list.specs.Plain.{plainTable, plainList, plainText}
+
+-- ---- answers
+
+made : {a : Answer} (text vs : List ℕ) → a ≡ done vs → unlessRefused a text ≡ text
+unfolding unlessRefused
+made text vs e = rw e
+
+-- texts that are the same wherever the call is not refused
+unless-same : (a : Answer) (x y : List ℕ) → (a .number ≡ 0 → x ≡ y) → unlessRefused a x ≡ unlessRefused a y
+unfolding unlessRefused
+unless-same a x y f = go (eqb (a .number) 0) refl where
+  go : (t : Bool) → eqb (a .number) 0 ≡ t → cond t x (refusedLine (a .number)) ≡ cond t y (refusedLine (a .number))
+  go true e = f (eqb-true (a .number) 0 e)
+  go false e = refl
+
+answer-done : (a : Answer) → a .number ≡ 0 → a ≡ done (a .values)
+answer-done a e = ap (λ (n : ℕ). record { number = n; values = a .values }) e
+
+-- ---- a list that was read is admitted
+
+module _ (s : List ℕ) (bytes : (j : ℕ) → getD s j 0 < 256) where
+  read-fine : readAll unusedPlaces s .answer .number ≡ 0 → readReason unusedPlaces s ≡ Fine
+  unfolding readAll
+  read-fine e = go (readReason unusedPlaces s) refl e where
+    go : (j : Judgement) → readReason unusedPlaces s ≡ j → readAs j unusedPlaces s .answer .number ≡ 0 → readReason unusedPlaces s ≡ Fine
+    go Fine h e = h
+    go (Declined reason) h e = absurd (eqb-false (refusalNumber reason) 0 (reason-not-zero reason) e)
+
+  list-fine : readAll unusedPlaces s .answer .number ≡ 0 → judgeList (readAll unusedPlaces s .list) ≡ Fine
+  list-fine e =
+      let answered = ap (λ (a : After). a .answer) (read-is unusedPlaces s (read-fine e)) in
+      let again = read-writes-back unusedPlaces s s _ bytes answered (omega arith) in
+      writable (readAll unusedPlaces s .list) s (write-answered (readAll unusedPlaces s .list) s (length s) (again .answer)) .list
+
+-- ---- a table of as many rows as the padded height
+
+abbrev fresh : ℕ → List ℕ
+fresh padded = zeros (mainWidth * padded)
+
+fresh-rows : (padded : ℕ) → rowCount (fresh padded) ≡ padded
+fresh-rows padded = let e : length (fresh padded) ≡ mainWidth * padded = length-replicate (mainWidth * padded) 0 in omega arith
+
+fresh-shape : (padded : ℕ) → padded ≤ maxPrintedRows → tableShape (fresh padded) ≡ true
+unfolding tableShape
+fresh-shape padded few =
+    let e : length (fresh padded) ≡ mainWidth * padded = length-replicate (mainWidth * padded) 0 in
+    let r = fresh-rows padded in
+    rw (eq-eqb (length (fresh padded) % mainWidth) 0 (omega arith), le-ltb maxRows (rowCount (fresh padded)) (omega arith))
+
+module _ (l : U32List) (fine : judgeList l ≡ Fine) (challenges : List ℕ) (padded : ℕ) (enough : listHeight l ≤ padded) (some : 1 ≤ padded)
+    (few : padded ≤ maxPrintedRows) where
+  fill-fine : fillReason l (fresh padded) ≡ Fine
+  unfolding fillReason
+  fill-fine =
+      let r = fresh-rows padded in
+      rw (fresh-shape padded few, fine, le-ltb (rowCount (fresh padded)) (listHeight l) (omega arith))
+
+  calls-plainly : callsText l challenges (listHeight l) padded (fresh padded) (zeros (auxWidth * padded))
+      ≡ plainTable l challenges (listHeight l) padded
+  unfolding callsText paddedText extendedText checkedText plainTable
+  calls-plainly =
+      let height = listHeight l in
+      let table = fresh padded in
+      let aux = zeros (auxWidth * padded) in
+      let filled = fill-answer l table fill-fine in
+      let pads = after-fill l table height filled .pad-done in
+      let extension = extendAll (paddedTable l table height) aux challenges in
+      let r = fresh-rows padded in
+      made _ (height ∷ []) filled
+      ∙ made _ [] pads
+      ∙ unless-same (extension .answer) _ _
+      (λ e.
+      let none : NoneRefuses l table aux challenges height (extension .answer .values) = record { fill = filled; pad = pads; extend = answer-done (extension .answer) e } in
+      let zero = four-calls l table aux challenges height (extension .answer .values) (omega arith) none .zero in
+      rw zero (made _ [] refl))
+
+-- ---- the text of a list, of stored bytes, of the input
+
+-- two texts that are the same where the test is false
+cond-same : (t : Bool) (a x y : List ℕ) → (t ≡ false → x ≡ y) → cond t a x ≡ cond t a y
+cond-same true a x y f = refl
+cond-same false a x y f = f refl
+
+list-plainly : (l : U32List) (challenges : List ℕ) → judgeList l ≡ Fine
+    → listText l challenges ≡ plainList l challenges (listHeight l) (paddedHeight (listHeight l))
+unfolding listText heightText planAll plainList
+list-plainly l challenges fine =
+    let padded = paddedHeight (listHeight l) in
+    made _ (listHeight l ∷ padded ∷ []) (rw fine)
+    ∙ cond-same (ltb maxPrintedRows padded) _ _ _
+    (λ e.
+    calls-plainly l fine challenges padded (padded-at-least (listHeight l)) (padded-positive (listHeight l)) (ltb-false maxPrintedRows padded e))
+
+read-plainly : (s challenges : List ℕ) → ((j : ℕ) → getD s j 0 < 256)
+    → readText s challenges
+    ≡ unlessRefused (readAll unusedPlaces s .answer)
+    (plainList (readAll unusedPlaces s .list) challenges (listHeight (readAll unusedPlaces s .list))
+    (paddedHeight (listHeight (readAll unusedPlaces s .list))))
+unfolding readText
+read-plainly s challenges bytes =
+    unless-same (readAll unusedPlaces s .answer) _ _ (λ e. list-plainly (readAll unusedPlaces s .list) challenges (list-fine s bytes e))
+
+pub prints-plainly : (input : List ℕ) → ((j : ℕ) → getD input j 0 < 256) → transcriptOf input ≡ plainText input
+unfolding transcriptOf plainText
+prints-plainly input bytes =
+    cond-same (ltb (length input) challengeBytes) _ _ _
+    (λ _. cond-same (ltb maxInput (length input)) _ _ _
+    (λ _. read-plainly (drop challengeBytes input) (challengesIn input) (λ j. rw getD-drop (bytes (challengeBytes + j)))))

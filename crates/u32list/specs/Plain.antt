@@ -1,0 +1,40 @@
+-- What `u32list` prints, in document 01's sentences alone. `transcriptOf` of the crate transcript also names the answers of the plan, of fill, of
+-- pad and of the check that cannot be here; proofs/Plain.antt shows that it is this text, for all bytes.
+use Prim.Native.Nat.{ℕ, _*_}
+use mathlib.Core.Bool.{cond}
+use mathlib.Core.List.{List, []}
+use lib.Dec.{ltb}
+use lib.ListN.{length, drop}
+use Rattle.words.specs.Limits.{maxInput, maxPrintedRows}
+use Rattle.words.specs.Refusals.{refusalNumber}
+use Rattle.words.specs.declared.Refusal.the-variants.{Shape, Short, Torn}
+use Rattle.lists.specs.Lists.{U32List, used}
+use Rattle.lists.specs.Heights.{listHeight}
+use Rattle.aet.specs.Heights.{paddedHeight}
+use Rattle.stored.specs.Stored.{readAll}
+use Rattle.air.specs.Columns.{mainWidth, auxWidth}
+use Rattle.u32_table.specs.Extending.{extendAll}
+use Rattle.honest.specs.FourCalls.{paddedTable}
+use Rattle.text.specs.Lines.{refusedLine}
+use Rattle.transcript.specs.Transcript.{challengeBytes, challengesIn, zeros, unusedPlaces, unlessRefused, resultText}
+
+-- "then extension refuses", and else all is printed, and the check's answer is `zero`
+unfoldable pub plainTable : U32List → (challenges : List ℕ) → (height padded : ℕ) → List ℕ
+plainTable l challenges height padded =
+    let table = paddedTable l (zeros (mainWidth * padded)) height in
+    let extension = extendAll table (zeros (auxWidth * padded)) challenges in
+    unlessRefused (extension .answer) (resultText (used l) height padded table (extension .answer .values) [])
+
+-- "then a padded height over 512 prints `refused 7`"
+unfoldable pub plainList : U32List → (challenges : List ℕ) → (height padded : ℕ) → List ℕ
+plainList l challenges height padded =
+    cond (ltb maxPrintedRows padded) (refusedLine (refusalNumber Short)) (plainTable l challenges height padded)
+
+-- "Input under 120 bytes prints `refused 1`, over 43,136 `refused 10`; then reading refuses"
+unfoldable pub plainText : List ℕ → List ℕ
+plainText input =
+    let reading = readAll unusedPlaces (drop challengeBytes input) in
+    let height = listHeight (reading .list) in
+    cond (ltb (length input) challengeBytes) (refusedLine (refusalNumber Shape))
+    (cond (ltb maxInput (length input)) (refusedLine (refusalNumber Torn))
+    (unlessRefused (reading .answer) (plainList (reading .list) (challengesIn input) height (paddedHeight height))))

@@ -1,0 +1,17 @@
+// u32list: reads fifteen challenges and a stored list from standard input, and writes the padded table, the last sum and the check's answer.
+// `transcript` does all of it but the reading and the writing.
+use libc::STDIN_FILENO;
+use libc::STDOUT_FILENO;
+use transcript::MAX_INPUT;
+use transcript::MAX_TEXT;
+use transcript::Transcribed;
+
+// Reads standard input to its end, or to one byte more than is admitted, and writes the text.
+fn main() {
+    let mut input = [0u8; MAX_INPUT + 1];
+    let mut out = [0u8; MAX_TEXT];
+    let n = io::read_full(STDIN_FILENO, &mut input);
+    if let Transcribed::Length(length) = transcript::transcript(&input[..n], &mut out) {
+        io::write_all(STDOUT_FILENO, &out[..length]);
+    }
+}
