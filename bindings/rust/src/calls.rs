@@ -1,0 +1,277 @@
+//! The nine calls over slices.
+use std::cmp::Ordering;
+use std::fmt;
+
+use crate::refusal::done;
+use crate::{sys, Refusal};
+
+/// An executed instruction with its operands. Any words may stand in it: recording admits it or refuses it.
+///
+/// Entries are ordered by opcode, then left operand, then right operand.
+#[derive(Clone, Copy, Debug, PartialEq, Eq, Hash)]
+pub struct Entry {
+    /// One of [`opcodes`](crate::opcodes), for an entry that is admitted.
+    pub opcode: u64,
+    /// Below 2^32; for pow below [`P`](crate::P); for log_2_floor not 0.
+    pub left_operand: u64,
+    /// Below 2^32.
+    pub right_operand: u64,
+}
+
+impl Entry {
+    /// The entry with these words.
+    pub fn new(opcode: u64, left_operand: u64, right_operand: u64) -> Entry {
+        Entry { opcode, left_operand, right_operand }
+    }
+
+    fn words(self) -> [u64; 3] {
+        [self.opcode, self.left_operand, self.right_operand]
+    }
+}
+
+impl Ord for Entry {
+    fn cmp(&self, other: &Entry) -> Ordering {
+        compare(*self, *other)
+    }
+}
+
+impl PartialOrd for Entry {
+    fn partial_cmp(&self, other: &Entry) -> Option<Ordering> {
+        Some(self.cmp(other))
+    }
+}
+
+/// How many places a list has, and how many of them hold an entry: the first `used`.
+#[derive(Clone, Copy, Debug, PartialEq, Eq, Hash)]
+pub struct Sizes {
+    /// All places.
+    pub capacity: usize,
+    /// The places in use.
+    pub used: usize,
+}
+
+impl Sizes {
+    fn numbers(self) -> [usize; 2] {
+        [self.capacity, self.used]
+    }
+}
+
+/// The rows that a list needs.
+#[derive(Clone, Copy, Debug, PartialEq, Eq, Hash)]
+pub struct Plan {
+    /// The sum of the entries' heights: so many rows are filled.
+    pub height: usize,
+    /// The smallest power of two that is at least the height, 1 for height 0.
+    pub padded_height: usize,
+}
+
+/// A kind of constraint, by where it is asked.
+#[derive(Clone, Copy, Debug, PartialEq, Eq, PartialOrd, Ord, Hash)]
+pub enum Group {
+    /// On row 0.
+    Initial,
+    /// On each row.
+    Consistency,
+    /// On each pair of rows.
+    Transition,
+    /// On the last row.
+    Terminal,
+}
+
+impl Group {
+    /// The group's number, 0 to 3.
+    pub fn number(self) -> u64 {
+        self as u64
+    }
+}
+
+impl fmt::Display for Group {
+    fn fmt(&self, f: &mut fmt::Formatter<'_>) -> fmt::Result {
+        f.write_str(match self {
+            Group::Initial => "initial",
+            Group::Consistency => "consistency",
+            Group::Transition => "transition",
+            Group::Terminal => "terminal",
+        })
+    }
+}
+
+/// What a check finds.
+#[derive(Clone, Copy, Debug, PartialEq, Eq, Hash)]
+pub enum Verdict {
+    /// Every constraint is zero. Then each row with CopyFlag 1 tells the truth, whoever made the table, and the last sum is right.
+    Zero,
+    /// The first constraint that is not zero.
+    Nonzero {
+        /// Where it is asked.
+        group: Group,
+        /// The row, or the upper one of the pair.
+        row: usize,
+        /// Which one of its group, from 0.
+        index: usize,
+        /// Its value, an element of the extension.
+        value: [u64; 3],
+    },
+}
+
+impl Verdict {
+    /// Whether every constraint is zero.
+    pub fn is_zero(self) -> bool {
+        self == Verdict::Zero
+    }
+}
+
+/// As `u32list` prints it: `zero`, or `nonzero` with group, row, index and the three words of the value.
+impl fmt::Display for Verdict {
+    fn fmt(&self, f: &mut fmt::Formatter<'_>) -> fmt::Result {
+        match self {
+            Verdict::Zero => f.write_str("zero"),
+            Verdict::Nonzero { group, row, index, value: [a, b, c] } => {
+                write!(f, "nonzero {} {row} {index} {a} {b} {c}", group.number())
+            }
+        }
+    }
+}
+
+/// Compares two entries by opcode, then left operand, then right operand, on any words.
+///
+/// ```
+/// use std::cmp::Ordering;
+/// use u32_table::{compare, opcodes::{LT, SPLIT}, Entry};
+/// assert_eq!(compare(Entry::new(SPLIT, 9, 9), Entry::new(LT, 0, 0)), Ordering::Less);
+/// assert_eq!(compare(Entry::new(LT, 2, 3), Entry::new(LT, 2, 3)), Ordering::Equal);
+/// ```
+pub fn compare(entry: Entry, other: Entry) -> Ordering {
+    let mut answers = [0];
+    let number = sys::compare(entry.words(), other.words(), &mut answers);
+    debug_assert_eq!(number, 0, "compare refuses only too few answers");
+    match answers[0] {
+        0 => Ordering::Less,
+        1 => Ordering::Equal,
+        _ => Ordering::Greater,
+    }
+}
+
+/// Records an entry: the first equal key's multiplicity gains one; else the key is appended with multiplicity 1, and `sizes.used` is one
+/// more. The answer is the key's position, from 0.
+///
+/// Refusals, in this order: shape, stranger, wide, bare log, then count full or list full.
+///
+/// ```
+/// use u32_table::{opcodes::AND, record, Entry, Sizes};
+/// let (mut sizes, mut keys, mut multiplicities) = (Sizes { capacity: 2, used: 0 }, [0; 6], [0; 2]);
+/// assert_eq!(record(&mut sizes, &mut keys, &mut multiplicities, Entry::new(AND, 3, 1)), Ok(0));
+/// assert_eq!(record(&mut sizes, &mut keys, &mut multiplicities, Entry::new(AND, 3, 1)), Ok(0));
+/// assert_eq!((sizes.used, keys, multiplicities), (1, [14, 3, 1, 0, 0, 0], [2, 0]));
+/// ```
+pub fn record(sizes: &mut Sizes, keys: &mut [u64], multiplicities: &mut [u64], entry: Entry) -> Result<usize, Refusal> {
+    let mut answers = [0; 2];
+    done(sys::record(sizes.numbers(), keys, multiplicities, entry.words(), &mut answers))?;
+    sizes.used = answers[1] as usize;
+    Ok(answers[0] as usize)
+}
+
+/// The rows that a list needs.
+///
+/// Refusals, in this order: shape; then entry by entry stranger, wide, bare log, count full.
+pub fn plan(sizes: Sizes, keys: &[u64], multiplicities: &[u64]) -> Result<Plan, Refusal> {
+    let mut answers = [0; 2];
+    done(sys::plan(sizes.numbers(), keys, multiplicities, &mut answers))?;
+    Ok(Plan { height: answers[0] as usize, padded_height: answers[1] as usize })
+}
+
+/// Reads a stored list of N entries: they replace the first N places, `sizes.used` becomes N, and the answer is N. Later places keep their
+/// words.
+///
+/// Refusals, in this order: shape; torn; list full; then entry by entry stranger, wide, bare log; repeat; tally.
+pub fn read(bytes: &[u8], sizes: &mut Sizes, keys: &mut [u64], multiplicities: &mut [u64]) -> Result<usize, Refusal> {
+    let mut answers = [0];
+    done(sys::read(bytes, sizes.numbers(), keys, multiplicities, &mut answers))?;
+    sizes.used = answers[0] as usize;
+    Ok(sizes.used)
+}
+
+/// Writes a list as bytes from the start of `out`; the answer is how many, [`stored_bytes`](crate::stored_bytes) of the places used. Later
+/// bytes keep their values.
+///
+/// Refusals, in this order: shape; then entry by entry stranger, wide, bare log, count full; repeat; short.
+pub fn write(sizes: Sizes, keys: &[u64], multiplicities: &[u64], out: &mut [u8]) -> Result<usize, Refusal> {
+    let mut answers = [0];
+    done(sys::write(sizes.numbers(), keys, multiplicities, out, &mut answers))?;
+    Ok(answers[0] as usize)
+}
+
+/// Fills a table with the sections of a list's entries, in list order; the answer is the height. Rows past it keep their words.
+///
+/// Refusals, in this order: shape; then entry by entry stranger, wide, bare log, count full; short.
+///
+/// ```
+/// use u32_table::{column, fill, opcodes::LT, Sizes, COLUMNS};
+/// let mut table = [0; 4 * COLUMNS];
+/// assert_eq!(fill(Sizes { capacity: 1, used: 1 }, &[LT, 2, 3], &[1], &mut table), Ok(3));
+/// assert_eq!(table[column::RESULT], 1);
+/// ```
+pub fn fill(sizes: Sizes, keys: &[u64], multiplicities: &[u64], table: &mut [u64]) -> Result<usize, Refusal> {
+    let mut answers = [0];
+    done(sys::fill(sizes.numbers(), keys, multiplicities, table, &mut answers))?;
+    Ok(answers[0] as usize)
+}
+
+/// Pads a table: every row from row `filled` on becomes the padding row that belongs to the last filled row.
+///
+/// Refusals, in this order: shape; short (`filled` is above the number of rows); unreduced (in the last filled row).
+pub fn pad(table: &mut [u64], filled: usize) -> Result<(), Refusal> {
+    done(sys::pad(table, filled))
+}
+
+/// Extends a table: each row's three words of `aux` become the sum so far, over the rows with CopyFlag 1, of multiplicity divided by
+/// denominator. The answer is the last sum, zero for no rows. What `aux` held before does not matter.
+///
+/// Refusals, in this order: shape; unreduced (table or challenges); flat.
+pub fn extend(table: &[u64], aux: &mut [u64], challenges: &[u64]) -> Result<[u64; 3], Refusal> {
+    let mut answers = [0; 3];
+    done(sys::extend(table, aux, challenges, &mut answers))?;
+    Ok(answers)
+}
+
+/// Checks a table: initial constraints on row 0, consistency row by row, transition pair by pair, terminal on the last row, to the first that is
+/// not zero. A table that fails is no refusal: the answer is [`Verdict::Nonzero`].
+///
+/// Refusals, in this order: shape; short (no rows); unreduced (table, challenges or aux).
+///
+/// ```
+/// # fn main() -> Result<(), u32_table::Refusal> {
+/// use u32_table::{check, column, extend, fill, opcodes::LT, pad, Group, Sizes, Verdict, AUX_COLUMNS, COLUMNS};
+/// let challenges: Vec<u64> = (1..=15).collect();
+/// let (mut table, mut aux) = ([0; 4 * COLUMNS], [0; 4 * AUX_COLUMNS]);
+/// let height = fill(Sizes { capacity: 1, used: 1 }, &[LT, 2, 3], &[1], &mut table)?;
+/// pad(&mut table, height)?;
+/// extend(&table, &mut aux, &challenges)?;
+/// assert_eq!(check(&table, &aux, &challenges)?, Verdict::Zero);
+///
+/// // 2 is not said to be less than 3
+/// table[column::RESULT] = 0;
+/// extend(&table, &mut aux, &challenges)?;
+/// assert!(matches!(check(&table, &aux, &challenges)?, Verdict::Nonzero { group: Group::Transition, row: 0, .. }));
+/// # Ok(())
+/// # }
+/// ```
+pub fn check(table: &[u64], aux: &[u64], challenges: &[u64]) -> Result<Verdict, Refusal> {
+    let mut answers = [0; 7];
+    done(sys::check(table, aux, challenges, &mut answers))?;
+    let [found, group, row, index, a, b, c] = answers;
+    Ok(match found {
+        0 => Verdict::Zero,
+        _ => Verdict::Nonzero {
+            group: match group {
+                0 => Group::Initial,
+                1 => Group::Consistency,
+                2 => Group::Transition,
+                _ => Group::Terminal,
+            },
+            row: row as usize,
+            index: index as usize,
+            value: [a, b, c],
+        },
+    })
+}

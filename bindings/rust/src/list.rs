@@ -1,0 +1,123 @@
+use crate::{calls, stored_bytes, Entry, Plan, Refusal, Sizes, KEY_WORDS};
+
+/// A list of entries with their multiplicities, that owns its two arrays.
+///
+/// ```
+/// # fn main() -> Result<(), u32_table::Refusal> {
+/// use u32_table::{opcodes::{AND, LT}, Entry, List};
+/// let mut list = List::new(16)?;
+/// list.record(Entry::new(AND, 3, 1))?;
+/// list.record(Entry::new(LT, 2, 3))?;
+/// list.record(Entry::new(AND, 3, 1))?;
+/// assert_eq!(list.entries().collect::<Vec<_>>(), [(Entry::new(AND, 3, 1), 2), (Entry::new(LT, 2, 3), 1)]);
+///
+/// let bytes = list.to_bytes()?;
+/// assert_eq!(List::from_bytes(&bytes, 16)?, list);
+/// # Ok(())
+/// # }
+/// ```
+///
+/// Two lists are equal if their capacities and entries are: what unused places hold does not count.
+#[derive(Clone, Debug)]
+pub struct List {
+    sizes: Sizes,
+    keys: Vec<u64>,
+    multiplicities: Vec<u64>,
+}
+
+impl List {
+    /// An empty list with so many places. More than [`MAX_PLACES`](crate::MAX_PLACES) are refused with shape.
+    pub fn new(capacity: usize) -> Result<List, Refusal> {
+        if capacity > crate::MAX_PLACES {
+            return Err(Refusal::Shape);
+        }
+        Ok(List { sizes: Sizes { capacity, used: 0 }, keys: vec![0; KEY_WORDS * capacity], multiplicities: vec![0; capacity] })
+    }
+
+    /// A list as it was stored, with so many places; see [`read`](crate::read).
+    pub fn from_bytes(bytes: &[u8], capacity: usize) -> Result<List, Refusal> {
+        let mut list = List::new(capacity)?;
+        list.read(bytes)?;
+        Ok(list)
+    }
+
+    /// Records an entry; see [`record`](crate::record). The answer is the position of its key.
+    pub fn record(&mut self, entry: Entry) -> Result<usize, Refusal> {
+        calls::record(&mut self.sizes, &mut self.keys, &mut self.multiplicities, entry)
+    }
+
+    /// The rows that the list needs; see [`plan`](crate::plan).
+    pub fn plan(&self) -> Result<Plan, Refusal> {
+        calls::plan(self.sizes, &self.keys, &self.multiplicities)
+    }
+
+    /// Replaces the list by a stored one; see [`read`](crate::read). The answer is the number of entries.
+    pub fn read(&mut self, bytes: &[u8]) -> Result<usize, Refusal> {
+        calls::read(bytes, &mut self.sizes, &mut self.keys, &mut self.multiplicities)
+    }
+
+    /// Writes the list as bytes from the start of `out`; see [`write`](crate::write). The answer is how many.
+    pub fn write(&self, out: &mut [u8]) -> Result<usize, Refusal> {
+        calls::write(self.sizes, &self.keys, &self.multiplicities, out)
+    }
+
+    /// The list as it is stored.
+    pub fn to_bytes(&self) -> Result<Vec<u8>, Refusal> {
+        let mut bytes = vec![0; stored_bytes(self.sizes.used)];
+        let length = self.write(&mut bytes)?;
+        debug_assert_eq!(length, bytes.len());
+        Ok(bytes)
+    }
+
+    /// Fills a table with the sections of the entries; see [`fill`](crate::fill). The answer is the height.
+    pub fn fill(&self, table: &mut [u64]) -> Result<usize, Refusal> {
+        calls::fill(self.sizes, &self.keys, &self.multiplicities, table)
+    }
+
+    /// The entries with their multiplicities, in list order.
+    pub fn entries(&self) -> impl ExactSizeIterator<Item = (Entry, u64)> + '_ {
+        let used = self.sizes.used;
+        self.keys[..KEY_WORDS * used]
+            .chunks_exact(KEY_WORDS)
+            .zip(&self.multiplicities[..used])
+            .map(|(key, &multiplicity)| (Entry::new(key[0], key[1], key[2]), multiplicity))
+    }
+
+    /// The number of entries.
+    pub fn len(&self) -> usize {
+        self.sizes.used
+    }
+
+    /// Whether there is no entry.
+    pub fn is_empty(&self) -> bool {
+        self.sizes.used == 0
+    }
+
+    /// The number of places.
+    pub fn capacity(&self) -> usize {
+        self.sizes.capacity
+    }
+
+    /// The places: how many there are, and how many are used.
+    pub fn sizes(&self) -> Sizes {
+        self.sizes
+    }
+
+    /// The key words of every place, used or not.
+    pub fn keys(&self) -> &[u64] {
+        &self.keys
+    }
+
+    /// The multiplicity of every place, used or not.
+    pub fn multiplicities(&self) -> &[u64] {
+        &self.multiplicities
+    }
+}
+
+impl PartialEq for List {
+    fn eq(&self, other: &List) -> bool {
+        self.sizes == other.sizes && self.entries().eq(other.entries())
+    }
+}
+
+impl Eq for List {}

@@ -1,0 +1,229 @@
+//! Every reason to decline, in its order, and that a refused call has changed nothing it was lent.
+mod common;
+
+use common::{list_of, tables_of, Random};
+use std::collections::BTreeSet;
+use u32_table::opcodes::{AND, LOG_2_FLOOR, LT, POW, SPLIT};
+use u32_table::{check, extend, fill, pad, plan, read, record, write, Entry, List, Refusal, Sizes, COLUMNS, MAX_ROWS, P};
+use Refusal::*;
+
+const WIDE: u64 = 1 << 32;
+
+#[test]
+fn numbers_and_words() {
+    for (i, reason) in Refusal::ALL.into_iter().enumerate() {
+        assert_eq!(reason.number(), i as u64 + 1);
+        assert_eq!(Refusal::from_number(reason.number()), Some(reason));
+        assert_eq!(reason.to_string(), format!("refused {} ({})", i + 1, reason.word()));
+    }
+    assert_eq!(Refusal::from_number(13), None);
+    let error: Box<dyn std::error::Error> = Box::new(Tally);
+    assert_eq!(error.to_string(), "refused 12 (tally)");
+}
+
+/// A list that is lent, with any words in it.
+#[derive(Clone, PartialEq, Debug)]
+struct Lent {
+    sizes: Sizes,
+    keys: Vec<u64>,
+    multiplicities: Vec<u64>,
+}
+
+fn lent(capacity: usize, entries: &[(u64, u64, u64, u64)]) -> Lent {
+    let mut l =
+        Lent { sizes: Sizes { capacity, used: entries.len() }, keys: vec![7; 3 * capacity], multiplicities: vec![7; capacity] };
+    for (i, (opcode, left, right, multiplicity)) in entries.iter().enumerate() {
+        l.keys[3 * i..3 * i + 3].copy_from_slice(&[*opcode, *left, *right]);
+        l.multiplicities[i] = *multiplicity;
+    }
+    l
+}
+
+impl Lent {
+    fn record(&mut self, entry: Entry) -> Result<usize, Refusal> {
+        record(&mut self.sizes, &mut self.keys, &mut self.multiplicities, entry)
+    }
+    fn plan(&self) -> Result<(usize, usize), Refusal> {
+        plan(self.sizes, &self.keys, &self.multiplicities).map(|p| (p.height, p.padded_height))
+    }
+    fn read(&mut self, bytes: &[u8]) -> Result<usize, Refusal> {
+        read(bytes, &mut self.sizes, &mut self.keys, &mut self.multiplicities)
+    }
+    fn write(&self, out: &mut [u8]) -> Result<usize, Refusal> {
+        write(self.sizes, &self.keys, &self.multiplicities, out)
+    }
+    fn fill(&self, table: &mut [u64]) -> Result<usize, Refusal> {
+        fill(self.sizes, &self.keys, &self.multiplicities, table)
+    }
+}
+
+#[test]
+fn record_refuses() {
+    let fine = lent(2, &[(AND, 3, 1, 2)]);
+    let full = lent(1, &[(AND, 3, 1, u64::from(u32::MAX))]);
+    let shapes = {
+        let mut bad = [fine.clone(), fine.clone(), fine.clone(), lent(2049, &[])];
+        bad[0].sizes.used = 3;
+        bad[1].keys.pop();
+        bad[2].multiplicities.push(0);
+        bad
+    };
+    let mut cases: Vec<(Lent, Entry, Refusal)> = shapes.into_iter().map(|l| (l, Entry::new(99, WIDE, WIDE), Shape)).collect();
+    cases.extend([
+        (fine.clone(), Entry::new(5, WIDE, 0), Stranger),
+        (fine.clone(), Entry::new(LOG_2_FLOOR, 0, WIDE), Wide),
+        (fine.clone(), Entry::new(POW, P, 0), Wide),
+        (fine.clone(), Entry::new(LT, WIDE, 0), Wide),
+        (fine.clone(), Entry::new(LOG_2_FLOOR, 0, 0), BareLog),
+        (full.clone(), Entry::new(AND, 3, 1), CountFull),
+        (full.clone(), Entry::new(AND, 3, 2), ListFull),
+    ]);
+    for (list, entry, reason) in cases {
+        let mut after = list.clone();
+        assert_eq!(after.record(entry), Err(reason), "{entry:?}");
+        assert_eq!(after, list, "{entry:?}");
+    }
+    assert_eq!(List::new(2049).err(), Some(Shape));
+    assert_eq!(fine.clone().record(Entry::new(POW, P - 1, WIDE - 1)), Ok(1));
+}
+
+/// Lists that plan, fill and write refuse alike.
+fn refused_lists() -> Vec<(Lent, Refusal)> {
+    let fine = (AND, 3, 1, 1);
+    let mut list = vec![
+        (lent(4, &[fine, (5, WIDE, 0, WIDE)]), Stranger),
+        (lent(4, &[fine, (SPLIT, WIDE, 0, WIDE)]), Wide),
+        (lent(4, &[fine, (LOG_2_FLOOR, 0, 0, WIDE)]), BareLog),
+        (lent(4, &[fine, (LT, 1, 1, WIDE), (5, 0, 0, 0)]), CountFull),
+    ];
+    let mut shape = lent(4, &[(5, 0, 0, 0)]);
+    shape.keys.push(0);
+    list.push((shape, Shape));
+    list
+}
+
+#[test]
+fn plan_fill_and_write_refuse() {
+    for (list, reason) in refused_lists() {
+        let (mut table, mut out) = (vec![3; 10 * COLUMNS], [5; 200]);
+        assert_eq!(list.plan(), Err(reason));
+        assert_eq!(list.fill(&mut table), Err(reason));
+        assert_eq!(list.write(&mut out), Err(reason));
+        assert!(table.iter().all(|w| *w == 3) && out.iter().all(|b| *b == 5));
+    }
+    // a multiplicity of 0 and repeated keys are filled; only writing refuses the repeat, before the room
+    let repeated = lent(3, &[(AND, 3, 1, 0), (LT, 0, 0, 1), (AND, 3, 1, 9)]);
+    let mut table = vec![3; 7 * COLUMNS];
+    assert_eq!(repeated.plan(), Ok((7, 8)));
+    assert_eq!(repeated.fill(&mut table[..6 * COLUMNS]), Err(Short));
+    assert!(table.iter().all(|w| *w == 3));
+    assert_eq!(repeated.fill(&mut table), Ok(7));
+    assert_eq!(repeated.write(&mut []), Err(Repeat));
+    let mut out = [5; 50];
+    assert_eq!(lent(2, &[(AND, 3, 1, 1), (LT, 0, 0, 1)]).write(&mut out[..49]), Err(Short));
+    assert_eq!(out, [5; 50]);
+    // a table of no whole rows, and one of too many; before the entries
+    let mut table = vec![3; (MAX_ROWS + 1) * COLUMNS];
+    for words in [11, table.len()] {
+        assert_eq!(lent(1, &[(5, 0, 0, 0)]).fill(&mut table[..words]), Err(Shape));
+    }
+    assert_eq!(lent(1, &[(AND, 0, 0, 0)]).fill(&mut table[..MAX_ROWS * COLUMNS]), Ok(1));
+}
+
+#[test]
+fn read_refuses() {
+    let bytes = list_of(&[Entry::new(AND, 3, 1), Entry::new(LT, 2, 3)]).to_bytes().unwrap();
+    let with = |changes: &[(usize, u8)]| {
+        let mut b = bytes.clone();
+        changes.iter().for_each(|(i, v)| b[*i] = *v);
+        b
+    };
+    let mut many = vec![0; 8 + 21 * 2049];
+    many[..2].copy_from_slice(&2049u16.to_le_bytes());
+    let to = lent(2, &[]);
+    let cases = [
+        (lent(1, &[]), bytes[..49].to_vec(), Torn),
+        (to.clone(), bytes[..7].to_vec(), Torn),
+        (to.clone(), [bytes.clone(), vec![0]].concat(), Torn),
+        (lent(2048, &[]), many, Torn),
+        (lent(1, &[]), with(&[(8, 5)]), ListFull),
+        (to.clone(), with(&[(8, 5), (4, 0)]), Stranger),
+        (to.clone(), with(&[(13, 1), (4, 0)]), Wide),
+        (to.clone(), with(&[(8, 12), (9, 0), (4, 0)]), BareLog),
+        (to.clone(), with(&[(25, 14), (26, 3), (34, 1), (4, 0)]), Repeat),
+        (to.clone(), with(&[(4, 7)]), Tally),
+    ];
+    for (list, stored, reason) in cases {
+        let mut after = list.clone();
+        assert_eq!(after.read(&stored), Err(reason));
+        assert_eq!(after, list);
+    }
+    let mut shape = to.clone();
+    shape.multiplicities.pop();
+    assert_eq!(shape.clone().read(&[]), Err(Shape));
+    assert_eq!(to.clone().read(&bytes), Ok(2));
+}
+
+#[test]
+fn pad_refuses() {
+    let mut table = vec![1; 4 * COLUMNS];
+    table[COLUMNS] = P;
+    let before = table.clone();
+    assert_eq!(pad(&mut table[..39], 9), Err(Shape));
+    assert_eq!(pad(&mut table, 5), Err(Short));
+    assert_eq!(pad(&mut table, 2), Err(Unreduced));
+    assert_eq!(table, before);
+    // only the last filled row is looked at
+    assert_eq!(pad(&mut table, 3), Ok(()));
+    assert_eq!(table[..3 * COLUMNS], before[..3 * COLUMNS]);
+}
+
+#[test]
+fn extend_and_check_refuse() {
+    let challenges = Random(6).challenges();
+    let made = tables_of(&list_of(&[Entry::new(AND, 3, 1), Entry::new(LT, 2, 3)]), &challenges);
+    let (table, aux) = (made.table, made.aux);
+    let unreduced = |words: &[u64], i: usize| {
+        let mut w = words.to_vec();
+        w[i] = P;
+        w
+    };
+    let flat = [0; 15];
+    let cases: Vec<(Vec<u64>, usize, Vec<u64>, Refusal)> = vec![
+        (unreduced(&table, 0)[..table.len() - 1].to_vec(), aux.len(), challenges.to_vec(), Shape),
+        (table.clone(), aux.len() - 1, challenges.to_vec(), Shape),
+        (unreduced(&table, 0), aux.len(), vec![P; 14], Shape),
+        (table.clone(), aux.len(), vec![0; 16], Shape),
+        (unreduced(&table, 79), aux.len(), flat.to_vec(), Unreduced),
+        (table.clone(), aux.len(), unreduced(&challenges, 14), Unreduced),
+        (table.clone(), aux.len(), flat.to_vec(), Flat),
+    ];
+    for (t, aux_words, c, reason) in cases {
+        let mut a = vec![P; aux_words];
+        assert_eq!(extend(&t, &mut a, &c), Err(reason));
+        assert!(a.iter().all(|w| *w == P));
+        if reason != Flat {
+            assert_eq!(check(&t, &a, &c), Err(reason));
+        }
+    }
+    assert_eq!(check(&[], &[], &unreduced(&challenges, 0)), Err(Short));
+    assert_eq!(check(&table, &unreduced(&aux, 5), &challenges), Err(Unreduced));
+    assert_eq!(check(&vec![0; (MAX_ROWS + 1) * COLUMNS], &[], &challenges), Err(Shape));
+}
+
+#[test]
+fn every_reason_is_reached() {
+    let mut reached: BTreeSet<u64> = BTreeSet::new();
+    let mut note = |r: Refusal| reached.insert(r.number());
+    for (list, _) in refused_lists() {
+        note(list.plan().unwrap_err());
+    }
+    note(lent(0, &[]).record(Entry::new(AND, 0, 0)).unwrap_err());
+    note(lent(1, &[(AND, 3, 1, 1)]).fill(&mut []).unwrap_err());
+    note(extend(&[P; 10], &mut [0; 3], &[0; 15]).unwrap_err());
+    note(extend(&[1; 10], &mut [0; 3], &[0; 15]).unwrap_err());
+    note(lent(1, &[]).read(&[0; 9]).unwrap_err());
+    note(lent(2, &[(AND, 3, 1, 1), (AND, 3, 1, 1)]).write(&mut [0; 50]).unwrap_err());
+    note(lent(1, &[]).read(&[0, 0, 0, 0, 1, 0, 0, 0]).unwrap_err());
+    assert_eq!(reached.into_iter().collect::<Vec<_>>(), (1..=12).collect::<Vec<_>>());
+}

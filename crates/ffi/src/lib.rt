@@ -1,0 +1,169 @@
+// The calls of document 01 as C functions on numbers and slices: include/u32_table.h describes them. Each returns document 01's number, 0 for done.
+// Further answers go into `answers`, a lent array of words: with fewer words than the call states it is refused with 1 before anything else is
+// looked at; on every refusal it is untouched, and so are always its words past those stated.
+ghost use mathlib.Core.Path.{_≡_};
+ghost use Rattle.isa.specs.Entries.{entry};
+ghost use Rattle.aet.specs.Heights.{planAll};
+ghost use Rattle.aet.specs.Recording.{recordAll};
+ghost use Rattle.stored.specs.Stored.{readAll, writeAll};
+ghost use Rattle.ffi_answers.specs.Exports.{lentList, lentDue, Exported};
+ghost use Rattle.ffi_lists.specs.ListAnswers.{withUsed, compareAll};
+ghost use Rattle.air.specs.Check.{checkAll};
+ghost use Rattle.u32_table.specs.Filling.{fillAll};
+ghost use Rattle.u32_table.specs.Padding.{padAll};
+ghost use Rattle.u32_table.specs.Extending.{extendAll};
+ghost use Rattle.ffi_tables.specs.TableAnswers.{verdictDue, SaysZeroIff, SaysZeroSound, SaysZeroSums};
+
+// Answers: the key's position, and the places used afterwards.
+#[no_mangle]
+pub extern "C" fn u32_table_record(
+    capacity: usize,
+    used: usize,
+    keys: &mut [u64],
+    multiplicities: &mut [u64],
+    opcode: u64,
+    left_operand: u64,
+    right_operand: u64,
+    answers: &mut [u64],
+) -> u64
+    ensures answers { λ r. ⌜ Exported 2 (withUsed (recordAll (lentList capacity used (now (keys .entry)) (now (multiplicities .entry))) (entry opcode «left_operand» «right_operand»))) (now (answers .entry)) r (now (answers .exit)) ⌝ }
+    ensures keys { λ _. ⌜ now (keys .exit) ≡ lentDue 2 (now (answers .entry)) (now (keys .entry)) (recordAll (lentList capacity used (now (keys .entry)) (now (multiplicities .entry))) (entry opcode «left_operand» «right_operand») .list .keys) ⌝ }
+    ensures multiplicities { λ _. ⌜ now (multiplicities .exit) ≡ lentDue 2 (now (answers .entry)) (now (multiplicities .entry)) (recordAll (lentList capacity used (now (keys .entry)) (now (multiplicities .entry))) (entry opcode «left_operand» «right_operand») .list .multiplicities) ⌝ }
+{
+    ffi_lists::record_entry(
+        capacity,
+        used,
+        keys,
+        multiplicities,
+        opcode,
+        left_operand,
+        right_operand,
+        answers,
+    )
+}
+
+// Answers: 0 where the first entry is less, 1 where the two are equal, 2 where it is greater.
+#[no_mangle]
+pub extern "C" fn u32_table_compare(
+    opcode: u64,
+    left_operand: u64,
+    right_operand: u64,
+    other_opcode: u64,
+    other_left_operand: u64,
+    other_right_operand: u64,
+    answers: &mut [u64],
+) -> u64
+    ensures { λ r. ⌜ Exported 1 (compareAll (entry opcode «left_operand» «right_operand») (entry «other_opcode» «other_left_operand» «other_right_operand»)) (now (answers .entry)) r (now (answers .exit)) ⌝ }
+{
+    ffi_lists::compare(
+        opcode,
+        left_operand,
+        right_operand,
+        other_opcode,
+        other_left_operand,
+        other_right_operand,
+        answers,
+    )
+}
+
+// Answers: the height and the padded height.
+#[no_mangle]
+pub extern "C" fn u32_table_plan(
+    capacity: usize,
+    used: usize,
+    keys: &[u64],
+    multiplicities: &[u64],
+    answers: &mut [u64],
+) -> u64
+    ensures { λ r. ⌜ Exported 2 (planAll (lentList capacity used (now (keys .entry)) (now (multiplicities .entry)))) (now (answers .entry)) r (now (answers .exit)) ⌝ }
+{
+    ffi_lists::plan(capacity, used, keys, multiplicities, answers)
+}
+
+// Answers: the number of entries, which is the number of places used afterwards.
+#[no_mangle]
+pub extern "C" fn u32_table_read(
+    bytes: &[u8],
+    capacity: usize,
+    used: usize,
+    keys: &mut [u64],
+    multiplicities: &mut [u64],
+    answers: &mut [u64],
+) -> u64
+    ensures answers { λ r. ⌜ Exported 1 (readAll (lentList capacity used (now (keys .entry)) (now (multiplicities .entry))) (now (bytes .entry)) .answer) (now (answers .entry)) r (now (answers .exit)) ⌝ }
+    ensures keys { λ _. ⌜ now (keys .exit) ≡ lentDue 1 (now (answers .entry)) (now (keys .entry)) (readAll (lentList capacity used (now (keys .entry)) (now (multiplicities .entry))) (now (bytes .entry)) .list .keys) ⌝ }
+    ensures multiplicities { λ _. ⌜ now (multiplicities .exit) ≡ lentDue 1 (now (answers .entry)) (now (multiplicities .entry)) (readAll (lentList capacity used (now (keys .entry)) (now (multiplicities .entry))) (now (bytes .entry)) .list .multiplicities) ⌝ }
+{
+    ffi_lists::read(bytes, capacity, used, keys, multiplicities, answers)
+}
+
+// Answers: the number of bytes written.
+#[no_mangle]
+pub extern "C" fn u32_table_write(
+    capacity: usize,
+    used: usize,
+    keys: &[u64],
+    multiplicities: &[u64],
+    out: &mut [u8],
+    answers: &mut [u64],
+) -> u64
+    ensures answers { λ r. ⌜ Exported 1 (writeAll (lentList capacity used (now (keys .entry)) (now (multiplicities .entry))) (now (out .entry)) .answer) (now (answers .entry)) r (now (answers .exit)) ⌝ }
+    ensures bytes { λ _. ⌜ now (out .exit) ≡ lentDue 1 (now (answers .entry)) (now (out .entry)) (writeAll (lentList capacity used (now (keys .entry)) (now (multiplicities .entry))) (now (out .entry)) .bytes) ⌝ }
+{
+    ffi_lists::write(capacity, used, keys, multiplicities, out, answers)
+}
+
+// Answers: the height.
+#[no_mangle]
+pub extern "C" fn u32_table_fill(
+    capacity: usize,
+    used: usize,
+    keys: &[u64],
+    multiplicities: &[u64],
+    table: &mut [u64],
+    answers: &mut [u64],
+) -> u64
+    ensures answers { λ r. ⌜ Exported 1 (fillAll (lentList capacity used (now (keys .entry)) (now (multiplicities .entry))) (now (table .entry)) .answer) (now (answers .entry)) r (now (answers .exit)) ⌝ }
+    ensures table { λ _. ⌜ now (table .exit) ≡ lentDue 1 (now (answers .entry)) (now (table .entry)) (fillAll (lentList capacity used (now (keys .entry)) (now (multiplicities .entry))) (now (table .entry)) .table) ⌝ }
+{
+    ffi_tables::fill(capacity, used, keys, multiplicities, table, answers)
+}
+
+// It has no answers besides the number.
+#[no_mangle]
+pub extern "C" fn u32_table_pad(table: &mut [u64], filled: usize) -> u64
+    ensures number { λ r. ⌜ r ≡ padAll (now (table .entry)) filled .answer .number ⌝ }
+    ensures table { λ _. ⌜ now (table .exit) ≡ padAll (now (table .entry)) filled .table ⌝ }
+{
+    ffi_tables::pad(table, filled)
+}
+
+// Answers: the three words of the last sum.
+#[no_mangle]
+pub extern "C" fn u32_table_extend(
+    table: &[u64],
+    aux: &mut [u64],
+    challenges: &[u64],
+    answers: &mut [u64],
+) -> u64
+    ensures answers { λ r. ⌜ Exported 3 (extendAll (now (table .entry)) (now (aux .entry)) (now (challenges .entry)) .answer) (now (answers .entry)) r (now (answers .exit)) ⌝ }
+    ensures aux { λ _. ⌜ now (aux .exit) ≡ lentDue 3 (now (answers .entry)) (now (aux .entry)) (extendAll (now (table .entry)) (now (aux .entry)) (now (challenges .entry)) .aux) ⌝ }
+{
+    ffi_tables::extend(table, aux, challenges, answers)
+}
+
+// Answers: 0 where every constraint is zero, and nothing more; else 1, group, row, index and the three words of the value.
+#[no_mangle]
+pub extern "C" fn u32_table_check(
+    table: &[u64],
+    aux: &[u64],
+    challenges: &[u64],
+    answers: &mut [u64],
+) -> u64
+    ensures answers { λ r. ⌜ Exported 7 (verdictDue (checkAll (now (table .entry)) (now (aux .entry)) (now (challenges .entry)))) (now (answers .entry)) r (now (answers .exit)) ⌝ }
+    ensures zero_iff { λ r. ⌜ SaysZeroIff (now (table .entry)) (now (aux .entry)) (now (challenges .entry)) (now (answers .entry)) r (now (answers .exit)) ⌝ }
+    ensures sound { λ r. ⌜ SaysZeroSound (now (table .entry)) r (now (answers .exit)) ⌝ }
+    ensures sum { λ r. ⌜ SaysZeroSums (now (table .entry)) (now (aux .entry)) (now (challenges .entry)) r (now (answers .exit)) ⌝ }
+{
+    ffi_tables::check(table, aux, challenges, answers)
+}

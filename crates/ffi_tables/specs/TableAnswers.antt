@@ -1,0 +1,40 @@
+-- The answers of the calls on tables, as the C functions hand them over, and what it means that the check hands over zero.
+use Prim.Native.Nat.{ℕ, _≤_, _<_}
+use mathlib.Core.Path.{_≡_}
+use mathlib.Core.Logic.{_↔_}
+use mathlib.Core.List.{List, [], _∷_}
+use lib.ListN.{length, getD}
+use Rattle.words.specs.Answers.{Answer}
+use Rattle.words.specs.declared.Judgement.the-variants.{Fine}
+use Rattle.air.specs.Columns.{rowAt, rowCount}
+use Rattle.air.specs.RunningSum.{lookupSum}
+use Rattle.air.specs.Check.{judgeCheck, ConstraintsHold}
+use Rattle.air.specs.Claim.{RowTells, DenominatorsInvertible, lastSum}
+
+-- the check "answers zero": the word 0, and nothing more; else 1, then "group 0 to 3, (upper) row, index from 0 and three-word value"
+abbrev pub verdictWords : List ℕ → List ℕ
+verdictWords [] = 0 ∷ []
+verdictWords (v ∷ vs) = 1 ∷ v ∷ vs
+
+abbrev pub verdictDue : Answer → Answer
+verdictDue due = record { number = due .number; values = verdictWords (due .values) }
+
+-- ---- what it means that the check hands over zero (demand 3)
+-- it is done, and the first word of `answers` is 0
+abbrev pub SaysZero : ℕ → List ℕ → Type 0
+SaysZero r after = (r ≡ 0) × (getD after 0 1 ≡ 0)
+
+-- where `answers` is long enough, that is so exactly where nothing is refused and every constraint is zero
+abbrev pub SaysZeroIff : List ℕ → List ℕ → List ℕ → List ℕ → ℕ → List ℕ → Type 0
+SaysZeroIff table aux challenges before r after =
+    7 ≤ length before → (SaysZero r after ↔ ((judgeCheck table aux challenges ≡ Fine) × ConstraintsHold table aux challenges))
+
+-- then each CopyFlag 1 row tells the truth
+abbrev pub SaysZeroSound : List ℕ → ℕ → List ℕ → Type 0
+SaysZeroSound table r after =
+    SaysZero r after → (i : ℕ) → i < rowCount table → rowAt table i .copyFlag ≡ 1 → RowTells (rowAt table i)
+
+-- and the last running sum is the sum over the CopyFlag 1 rows, if no denominator of theirs is without inverse
+abbrev pub SaysZeroSums : List ℕ → List ℕ → List ℕ → ℕ → List ℕ → Type 0
+SaysZeroSums table aux challenges r after =
+    SaysZero r after → DenominatorsInvertible table challenges → lastSum table aux ≡ lookupSum table challenges

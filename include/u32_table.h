@@ -1,0 +1,173 @@
+/* The U32 table of Triton VM, proved: record, compare, plan, read, write, fill, pad, extend, check.
+ *
+ * The functions stand in crates/ffi. `rt staticlib ffi` proves them and writes target/staticlib/libffi.a for x86-64 Linux:
+ *
+ *     cc -Iinclude program.c target/staticlib/libffi.a
+ *
+ * They allocate nothing, keep nothing between calls, use of the C library only memset, and may run on many threads at once. u32_table_read
+ * takes about 120 KB of stack, u32_table_write 50 KB, the others at most a few KB.
+ *
+ * Arrays. Each is a pointer and the number of its elements (words of 64 bits, or bytes). The caller sees to what the proof takes for
+ * granted: a pointer is not null and is aligned, that many elements are there, and no array that a call may write overlaps another array
+ * of the same call. Nothing else is asked of any argument: every number and every content is answered.
+ *
+ * Numbers. Each function returns 0 where the work is done, and else the number of the first reason to decline, in the order that its comment
+ * gives. After a refusal every array is as it was. `answers` receives what a call answers besides its number. Where it has fewer words
+ * than U32_TABLE_.._ANSWERS says, the call returns U32_TABLE_SHAPE before anything else is looked at. Words past those stated are not
+ * touched.
+ *
+ * Elements are words below U32_TABLE_P; an element of the extension is three words a, b, c for a + b X + c X^2 with X^3 = X - 1. */
+#ifndef U32_TABLE_H
+#define U32_TABLE_H
+
+#include <stddef.h>
+#include <stdint.h>
+
+#ifdef __cplusplus
+extern "C" {
+#endif
+
+/* Reasons to decline. */
+enum {
+    U32_TABLE_DONE = 0,
+    U32_TABLE_SHAPE = 1,      /* an array has the wrong length, or sizes are out of range */
+    U32_TABLE_STRANGER = 2,   /* an opcode that is none of the six */
+    U32_TABLE_WIDE = 3,       /* an operand outside its range */
+    U32_TABLE_BARE_LOG = 4,   /* log_2_floor of 0 */
+    U32_TABLE_COUNT_FULL = 5, /* a multiplicity above 2^32 - 1; in recording, if one more would pass that */
+    U32_TABLE_LIST_FULL = 6,  /* a new key and no unused place; in reading, more entries than places */
+    U32_TABLE_SHORT = 7,      /* too few rows or too few output bytes; a filled count above the rows; a check of no rows */
+    U32_TABLE_UNREDUCED = 8,  /* a word that is U32_TABLE_P or more */
+    U32_TABLE_FLAT = 9,       /* a row with CopyFlag 1 whose denominator has no inverse */
+    U32_TABLE_TORN = 10,      /* stored bytes of the wrong length, or more than 2,048 entries in them */
+    U32_TABLE_REPEAT = 11,    /* equal keys in stored bytes, or in a list to be written */
+    U32_TABLE_TALLY = 12      /* the stored height is not the sum of the entries' heights */
+};
+
+/* The six opcodes. */
+enum {
+    U32_TABLE_SPLIT = 4,
+    U32_TABLE_LT = 6,
+    U32_TABLE_LOG_2_FLOOR = 12,
+    U32_TABLE_AND = 14,
+    U32_TABLE_POP_COUNT = 28,
+    U32_TABLE_POW = 30
+};
+
+/* What u32_table_compare answers. */
+enum { U32_TABLE_LESS = 0, U32_TABLE_EQUAL = 1, U32_TABLE_GREATER = 2 };
+
+/* The columns of a row, in the order of its words. */
+enum {
+    U32_TABLE_COPY_FLAG = 0,
+    U32_TABLE_BITS = 1,
+    U32_TABLE_BITS_MINUS_33_INV = 2,
+    U32_TABLE_CI = 3,
+    U32_TABLE_LHS = 4,
+    U32_TABLE_LHS_INV = 5,
+    U32_TABLE_RHS = 6,
+    U32_TABLE_RHS_INV = 7,
+    U32_TABLE_RESULT = 8,
+    U32_TABLE_LOOKUP_MULTIPLICITY = 9
+};
+
+enum {
+    U32_TABLE_MAX_PLACES = 2048,   /* places of a list, at most */
+    U32_TABLE_MAX_ROWS = 131072,   /* rows of a table, at most */
+    U32_TABLE_KEY_WORDS = 3,       /* words of a key: opcode, left operand, right operand */
+    U32_TABLE_COLUMNS = 10,        /* words of a row */
+    U32_TABLE_AUX_COLUMNS = 3,     /* aux words of a row: the sum so far */
+    U32_TABLE_CHALLENGE_WORDS = 15 /* Indeterminate, LhsWeight, RhsWeight, CiWeight, ResultWeight, three words each */
+};
+
+/* The number of elements of the base field, 2^64 - 2^32 + 1. */
+#define U32_TABLE_P UINT64_C(18446744069414584321)
+
+/* Bytes that a stored list of n entries takes. */
+#define U32_TABLE_STORED_BYTES(n) (8 + 21 * (size_t)(n))
+
+/* How many words of `answers` each call states; u32_table_pad has none. */
+enum {
+    U32_TABLE_RECORD_ANSWERS = 2,
+    U32_TABLE_COMPARE_ANSWERS = 1,
+    U32_TABLE_PLAN_ANSWERS = 2,
+    U32_TABLE_READ_ANSWERS = 1,
+    U32_TABLE_WRITE_ANSWERS = 1,
+    U32_TABLE_FILL_ANSWERS = 1,
+    U32_TABLE_EXTEND_ANSWERS = 3,
+    U32_TABLE_CHECK_ANSWERS = 7
+};
+
+/* A list is `capacity` places, of which the first `used` hold an entry each: three key words a place and one multiplicity a place. So
+ * key_words has to be 3 * capacity and `places` has to be `capacity`; used is at most capacity, and capacity at most 2,048. Anything
+ * else is U32_TABLE_SHAPE.
+ *
+ * An entry is admitted if its opcode is one of the six, both operands are below 2^32 (but the left one of pow below U32_TABLE_P), and
+ * the left one of log_2_floor is not 0. */
+
+/* Records an entry: the first equal key's multiplicity gains one; else the key is appended, with multiplicity 1.
+ * Answers: the key's position, from 0; the places used afterwards, which is what to pass as `used` from then on.
+ * Refusals, in this order: SHAPE; STRANGER; WIDE; BARE_LOG; then COUNT_FULL or LIST_FULL. */
+uint64_t u32_table_record(size_t capacity, size_t used, uint64_t *keys, size_t key_words, uint64_t *multiplicities, size_t places,
+                          uint64_t opcode, uint64_t left_operand, uint64_t right_operand, uint64_t *answers, size_t answer_words);
+
+/* Compares two entries by opcode, then left operand, then right operand, whatever words they are.
+ * Answers: U32_TABLE_LESS, U32_TABLE_EQUAL or U32_TABLE_GREATER.
+ * Refusals: SHAPE, for `answers` alone. */
+uint64_t u32_table_compare(uint64_t opcode, uint64_t left_operand, uint64_t right_operand, uint64_t other_opcode,
+                           uint64_t other_left_operand, uint64_t other_right_operand, uint64_t *answers, size_t answer_words);
+
+/* The rows that a list needs.
+ * Answers: its height, the sum of its entries' heights; its padded height, the smallest power of two that is at least the height, 1 for 0.
+ * Refusals, in this order: SHAPE; then entry by entry STRANGER, WIDE, BARE_LOG, COUNT_FULL. */
+uint64_t u32_table_plan(size_t capacity, size_t used, const uint64_t *keys, size_t key_words, const uint64_t *multiplicities,
+                        size_t places, uint64_t *answers, size_t answer_words);
+
+/* Reads a stored list: its N entries replace the first N places, and later places keep their words. `used` is how many places were used
+ * before; afterwards it is N.
+ * Answers: N.
+ * Refusals, in this order: SHAPE; TORN; LIST_FULL; then entry by entry STRANGER, WIDE, BARE_LOG; REPEAT; TALLY. */
+uint64_t u32_table_read(const uint8_t *bytes, size_t byte_count, size_t capacity, size_t used, uint64_t *keys, size_t key_words,
+                        uint64_t *multiplicities, size_t places, uint64_t *answers, size_t answer_words);
+
+/* Writes a list as bytes from the start of `out`: 4 bytes number of entries, 4 bytes height, then for each entry opcode (1 byte), left
+ * operand (8) and right operand (8), then the multiplicities (4 each), all little-endian. Bytes of `out` past the end keep their values.
+ * Answers: the number of bytes written, U32_TABLE_STORED_BYTES(used).
+ * Refusals, in this order: SHAPE; then entry by entry STRANGER, WIDE, BARE_LOG, COUNT_FULL; REPEAT; SHORT. */
+uint64_t u32_table_write(size_t capacity, size_t used, const uint64_t *keys, size_t key_words, const uint64_t *multiplicities,
+                         size_t places, uint8_t *out, size_t byte_count, uint64_t *answers, size_t answer_words);
+
+/* Fills a table with the sections of the list's entries, in list order. `table` has ten words a row; rows past the height keep their words.
+ * Answers: the height.
+ * Refusals, in this order: SHAPE (of the list, or table_words is not whole rows or over 131,072 rows); then entry by entry STRANGER, WIDE,
+ * BARE_LOG, COUNT_FULL; SHORT (fewer rows than the height). */
+uint64_t u32_table_fill(size_t capacity, size_t used, const uint64_t *keys, size_t key_words, const uint64_t *multiplicities,
+                        size_t places, uint64_t *table, size_t table_words, uint64_t *answers, size_t answer_words);
+
+/* Pads a table: every row from row `filled` on becomes the padding row that belongs to the last filled row.
+ * It has no answers besides the number.
+ * Refusals, in this order: SHAPE; SHORT (`filled` is above the number of rows); UNREDUCED (in the last filled row). */
+uint64_t u32_table_pad(uint64_t *table, size_t table_words, size_t filled);
+
+/* Extends a table: each row's three aux words become the sum so far, over the rows with CopyFlag 1, of multiplicity divided by denominator.
+ * The old content of `aux` does not matter.
+ * Answers: the three words of the last sum, zero for no rows.
+ * Refusals, in this order: SHAPE (of the table, aux_words is not three a row, or challenge_words is not 15); UNREDUCED (table or
+ * challenges); FLAT. */
+uint64_t u32_table_extend(const uint64_t *table, size_t table_words, uint64_t *aux, size_t aux_words, const uint64_t *challenges,
+                          size_t challenge_words, uint64_t *answers, size_t answer_words);
+
+/* Checks a table: initial constraints on row 0, consistency constraints row by row, transition constraints pair by pair, terminal constraints
+ * on the last row, to the first value that is not zero.
+ * Answers: one word, 0, where every value is zero, and the other words of `answers` keep theirs; else 1, then group (0 initial,
+ * 1 consistency, 2 transition, 3 terminal), row (the upper one of a pair), index in the group from 0, and the three words of the value.
+ * Note that a table which fails the check is no refusal: the number is 0 and the first answer is 1.
+ * Refusals, in this order: SHAPE (as for u32_table_extend); SHORT (no rows); UNREDUCED (table, challenges or aux). */
+uint64_t u32_table_check(const uint64_t *table, size_t table_words, const uint64_t *aux, size_t aux_words, const uint64_t *challenges,
+                         size_t challenge_words, uint64_t *answers, size_t answer_words);
+
+#ifdef __cplusplus
+}
+#endif
+
+#endif

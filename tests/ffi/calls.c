@@ -1,0 +1,250 @@
+/* Calls every function of include/u32_table.h: honest input, every refusal in its order, `answers` too short, and that nothing else is touched.
+ * Built and run by tests/ffi/run. */
+#include <inttypes.h>
+#include <stdio.h>
+#include <string.h>
+
+#include "u32_table.h"
+
+enum { PLACES = 4, ROWS = 128, MARK = 77, WORDS = 8 };
+
+static unsigned tried, failed;
+
+static void expect(const char *what, uint64_t got, uint64_t wanted) {
+    tried++;
+    if (got == wanted) return;
+    failed++;
+    printf("%s: %" PRIu64 ", wanted %" PRIu64 "\n", what, got, wanted);
+}
+
+/* ---- arrays with a copy, so that it can be seen what a call touched */
+static uint64_t keys[3 * PLACES], multiplicities[PLACES], table[10 * ROWS], aux[3 * ROWS], challenges[15], answers[WORDS];
+static uint8_t bytes[256];
+static struct {
+    uint64_t keys[3 * PLACES], multiplicities[PLACES], table[10 * ROWS], aux[3 * ROWS], challenges[15];
+    uint8_t bytes[256];
+} copy;
+
+static void keep(void) {
+    memcpy(copy.keys, keys, sizeof keys);
+    memcpy(copy.multiplicities, multiplicities, sizeof multiplicities);
+    memcpy(copy.table, table, sizeof table);
+    memcpy(copy.aux, aux, sizeof aux);
+    memcpy(copy.challenges, challenges, sizeof challenges);
+    memcpy(copy.bytes, bytes, sizeof bytes);
+    for (int i = 0; i < WORDS; i++) answers[i] = MARK;
+}
+
+static void lists_kept(const char *what) {
+    expect(what, (uint64_t)(memcmp(copy.keys, keys, sizeof keys) | memcmp(copy.multiplicities, multiplicities, sizeof multiplicities)), 0);
+}
+
+static void tables_kept(const char *what) {
+    expect(what, (uint64_t)(memcmp(copy.table, table, sizeof table) | memcmp(copy.aux, aux, sizeof aux)), 0);
+    expect(what, (uint64_t)(memcmp(copy.challenges, challenges, sizeof challenges) | memcmp(copy.bytes, bytes, sizeof bytes)), 0);
+}
+
+/* the first n answers are those wanted, and the others are untouched */
+static void answered(const char *what, int n, const uint64_t *wanted) {
+    for (int i = 0; i < n; i++) expect(what, answers[i], wanted[i]);
+    for (int i = n; i < WORDS; i++) expect(what, answers[i], MARK);
+}
+
+static void refused(const char *what, uint64_t got, uint64_t wanted) {
+    expect(what, got, wanted);
+    answered(what, 0, NULL);
+    lists_kept(what);
+    tables_kept(what);
+}
+
+#define REFUSED(call, wanted) (keep(), refused(#call, call, wanted))
+#define DONE(call, n, ...) (keep(), expect(#call, call, 0), answered(#call, n, (uint64_t[]){__VA_ARGS__}))
+
+static uint64_t record(size_t used, uint64_t opcode, uint64_t lhs, uint64_t rhs) {
+    return u32_table_record(PLACES, used, keys, 3 * PLACES, multiplicities, PLACES, opcode, lhs, rhs, answers, WORDS);
+}
+static uint64_t plan(size_t used) {
+    return u32_table_plan(PLACES, used, keys, 3 * PLACES, multiplicities, PLACES, answers, WORDS);
+}
+static uint64_t read(size_t n) {
+    return u32_table_read(bytes, n, PLACES, 0, keys, 3 * PLACES, multiplicities, PLACES, answers, WORDS);
+}
+static uint64_t write(size_t used, size_t room) {
+    return u32_table_write(PLACES, used, keys, 3 * PLACES, multiplicities, PLACES, bytes, room, answers, WORDS);
+}
+static uint64_t fill(size_t used, size_t rows) {
+    return u32_table_fill(PLACES, used, keys, 3 * PLACES, multiplicities, PLACES, table, 10 * rows, answers, WORDS);
+}
+static uint64_t extend(size_t rows) { return u32_table_extend(table, 10 * rows, aux, 3 * rows, challenges, 15, answers, WORDS); }
+static uint64_t check(size_t rows) { return u32_table_check(table, 10 * rows, aux, 3 * rows, challenges, 15, answers, WORDS); }
+
+static void put(int place, uint64_t opcode, uint64_t lhs, uint64_t rhs, uint64_t multiplicity) {
+    keys[3 * place] = opcode, keys[3 * place + 1] = lhs, keys[3 * place + 2] = rhs, multiplicities[place] = multiplicity;
+}
+
+static void lists(void) {
+    const uint64_t pow2_32 = UINT64_C(1) << 32;
+    /* recording: a new key, a known one, places, limits */
+    DONE(record(0, U32_TABLE_AND, 3, 1), 2, 0, 1);
+    DONE(record(1, U32_TABLE_LT, 2, 3), 2, 1, 2);
+    DONE(record(2, U32_TABLE_AND, 3, 1), 2, 0, 2);
+    expect("keys", keys[0] == 14 && keys[1] == 3 && keys[2] == 1 && keys[3] == 6 && keys[4] == 2 && keys[5] == 3, 1);
+    expect("multiplicities", multiplicities[0] == 2 && multiplicities[1] == 1, 1);
+    REFUSED(record(5, 5, 0, 0), U32_TABLE_SHAPE);
+    REFUSED(u32_table_record(PLACES, 2, keys, 3 * PLACES - 1, multiplicities, PLACES, 4, 0, 0, answers, WORDS), U32_TABLE_SHAPE);
+    REFUSED(u32_table_record(PLACES, 2, keys, 3 * PLACES, multiplicities, PLACES - 1, 4, 0, 0, answers, WORDS), U32_TABLE_SHAPE);
+    REFUSED(u32_table_record(2049, 2, keys, 3 * PLACES, multiplicities, PLACES, 4, 0, 0, answers, WORDS), U32_TABLE_SHAPE);
+    REFUSED(u32_table_record(PLACES, 2, keys, 3 * PLACES, multiplicities, PLACES, 4, 0, 0, answers, 1), U32_TABLE_SHAPE);
+    REFUSED(record(2, 5, pow2_32, 0), U32_TABLE_STRANGER);
+    REFUSED(record(2, U32_TABLE_LOG_2_FLOOR, 0, pow2_32), U32_TABLE_WIDE);
+    REFUSED(record(2, U32_TABLE_POW, U32_TABLE_P, 0), U32_TABLE_WIDE);
+    REFUSED(record(2, U32_TABLE_LOG_2_FLOOR, 0, 0), U32_TABLE_BARE_LOG);
+    multiplicities[1] = pow2_32 - 1;
+    REFUSED(record(2, U32_TABLE_LT, 2, 3), U32_TABLE_COUNT_FULL);
+    multiplicities[1] = 1;
+    DONE(record(2, U32_TABLE_POW, U32_TABLE_P - 1, 5), 2, 2, 3);
+    DONE(record(3, U32_TABLE_POP_COUNT, pow2_32 - 1, 0), 2, 3, 4);
+    REFUSED(record(4, U32_TABLE_SPLIT, 0, 0), U32_TABLE_LIST_FULL);
+
+    /* comparison, on any words */
+    DONE(u32_table_compare(4, 9, 9, 6, 0, 0, answers, WORDS), 1, U32_TABLE_LESS);
+    DONE(u32_table_compare(99, 1, 7, 99, 1, 7, answers, WORDS), 1, U32_TABLE_EQUAL);
+    DONE(u32_table_compare(4, 2, 0, 4, 1, UINT64_MAX, answers, WORDS), 1, U32_TABLE_GREATER);
+    REFUSED(u32_table_compare(4, 2, 0, 4, 1, 0, answers, 0), U32_TABLE_SHAPE);
+
+    /* the plan: and 3, 1 takes 3 rows, lt 2, 3 takes 3, pow to the 5 takes 4, pop_count of 2^32 - 1 takes 33 */
+    DONE(plan(4), 2, 43, 64);
+    DONE(plan(0), 2, 0, 1);
+    REFUSED(plan(5), U32_TABLE_SHAPE);
+    REFUSED(u32_table_plan(PLACES, 4, keys, 3 * PLACES, multiplicities, PLACES, answers, 1), U32_TABLE_SHAPE);
+    keys[3] = 7;
+    REFUSED(plan(2), U32_TABLE_STRANGER);
+    keys[3] = 6, keys[4] = pow2_32;
+    REFUSED(plan(2), U32_TABLE_WIDE);
+    keys[3] = 12, keys[4] = 0;
+    REFUSED(plan(2), U32_TABLE_BARE_LOG);
+    keys[3] = 6, keys[4] = 2, multiplicities[1] = pow2_32;
+    REFUSED(plan(2), U32_TABLE_COUNT_FULL);
+    multiplicities[1] = 1;
+
+    /* writing: 8 + 21 N bytes, and the rest is untouched */
+    memset(bytes, MARK, sizeof bytes);
+    DONE(write(4, sizeof bytes), 1, U32_TABLE_STORED_BYTES(4));
+    expect("entries and height", bytes[0] == 4 && bytes[4] == 43 && (bytes[1] | bytes[2] | bytes[3] | bytes[5]) == 0, 1);
+    expect("first key", bytes[8] == 14 && bytes[9] == 3 && bytes[17] == 1, 1);
+    expect("first multiplicity", bytes[8 + 17 * 4], 2);
+    expect("bytes past the end", bytes[8 + 21 * 4], MARK);
+    REFUSED(write(5, sizeof bytes), U32_TABLE_SHAPE);
+    REFUSED(u32_table_write(PLACES, 4, keys, 3 * PLACES, multiplicities, PLACES, bytes, sizeof bytes, answers, 0), U32_TABLE_SHAPE);
+    REFUSED(write(4, U32_TABLE_STORED_BYTES(4) - 1), U32_TABLE_SHORT);
+    multiplicities[0] = pow2_32;
+    REFUSED(write(4, sizeof bytes), U32_TABLE_COUNT_FULL);
+    multiplicities[0] = 2;
+    put(3, 14, 3, 1, 1);
+    REFUSED(write(4, 0), U32_TABLE_REPEAT);
+    put(3, 28, pow2_32 - 1, 0, 1);
+
+    /* reading: what was written comes back; places past N are untouched */
+    DONE(write(3, sizeof bytes), 1, U32_TABLE_STORED_BYTES(3));
+    put(0, MARK, MARK, MARK, MARK), put(1, 0, 0, 0, 0), put(2, 0, 0, 0, 0), put(3, MARK, MARK, MARK, MARK);
+    DONE(read(U32_TABLE_STORED_BYTES(3)), 1, 3);
+    expect("read", keys[0] == 14 && keys[1] == 3 && keys[6] == 30 && keys[7] == U32_TABLE_P - 1 && multiplicities[0] == 2, 1);
+    expect("places past N", keys[9] == MARK && multiplicities[3] == MARK, 1);
+    REFUSED(u32_table_read(bytes, 71, PLACES, 5, keys, 3 * PLACES, multiplicities, PLACES, answers, WORDS), U32_TABLE_SHAPE);
+    REFUSED(u32_table_read(bytes, 71, PLACES, 0, keys, 3 * PLACES, multiplicities, PLACES, answers, 0), U32_TABLE_SHAPE);
+    REFUSED(read(70), U32_TABLE_TORN);
+    REFUSED(u32_table_read(bytes, 71, 2, 0, keys, 6, multiplicities, 2, answers, WORDS), U32_TABLE_LIST_FULL);
+    bytes[8] = 5;
+    REFUSED(read(71), U32_TABLE_STRANGER);
+    bytes[8] = 14, bytes[9 + 7] = 1;
+    REFUSED(read(71), U32_TABLE_WIDE);
+    bytes[9 + 7] = 0, bytes[8] = 12, bytes[9] = 0;
+    REFUSED(read(71), U32_TABLE_BARE_LOG);
+    bytes[8] = 6, bytes[9] = 2, bytes[17] = 3;
+    REFUSED(read(71), U32_TABLE_REPEAT);
+    bytes[8] = 14, bytes[9] = 3, bytes[17] = 1, bytes[4] ^= 1;
+    REFUSED(read(71), U32_TABLE_TALLY);
+    bytes[4] ^= 1;
+    DONE(read(71), 1, 3);
+}
+
+static void tables(void) {
+    static const uint64_t last[10] = {0, 0, UINT64_C(15651782846776010939), 6, 0, 0, 0, 0, 2, 0};
+    put(0, 14, 3, 1, 2), put(1, 6, 2, 3, 1), put(2, 30, U32_TABLE_P - 1, 5, 1), put(3, 6, 0, 0, 1);
+    for (int i = 0; i < 10 * ROWS; i++) table[i] = MARK;
+    for (int i = 0; i < 3 * ROWS; i++) aux[i] = MARK;
+    for (int i = 0; i < 15; i++) challenges[i] = (uint64_t)(1000 + 77 * i);
+
+    /* filling: 3 + 3 + 4 + 1 rows */
+    REFUSED(fill(5, 16), U32_TABLE_SHAPE);
+    REFUSED(u32_table_fill(PLACES, 4, keys, 12, multiplicities, PLACES, table, 159, answers, WORDS), U32_TABLE_SHAPE);
+    REFUSED(u32_table_fill(PLACES, 4, keys, 12, multiplicities, PLACES, table, 160, answers, 0), U32_TABLE_SHAPE);
+    keys[3] = 7;
+    REFUSED(fill(4, 16), U32_TABLE_STRANGER);
+    keys[3] = 6, keys[5] = UINT64_C(1) << 32;
+    REFUSED(fill(4, 16), U32_TABLE_WIDE);
+    keys[5] = 3, keys[9] = 12;
+    REFUSED(fill(4, 16), U32_TABLE_BARE_LOG);
+    keys[9] = 6, multiplicities[3] = UINT64_C(1) << 32;
+    REFUSED(fill(4, 16), U32_TABLE_COUNT_FULL);
+    multiplicities[3] = 1;
+    REFUSED(fill(4, 10), U32_TABLE_SHORT);
+    DONE(fill(4, 16), 1, 11);
+    expect("first row", table[0] == 1 && table[3] == 14 && table[4] == 3 && table[6] == 1 && table[8] == 1 && table[9] == 2, 1);
+    expect("lt 2, 3", table[30 + U32_TABLE_RESULT], 1);
+    expect("rows past the height", table[110], MARK);
+
+    /* padding: Result 2 after lt 0, 0 */
+    keep();
+    expect("pad shape", u32_table_pad(table, 159, 11), U32_TABLE_SHAPE);
+    expect("pad short", u32_table_pad(table, 160, 17), U32_TABLE_SHORT);
+    table[105] = U32_TABLE_P, keep();
+    expect("pad unreduced", u32_table_pad(table, 160, 11), U32_TABLE_UNREDUCED);
+    tables_kept("pad");
+    table[105] = 0;
+    expect("pad", u32_table_pad(table, 160, 11), 0);
+    expect("padding", (uint64_t)memcmp(table + 150, last, sizeof last), 0);
+    expect("rows past the table", table[160], MARK);
+
+    /* extension */
+    REFUSED(u32_table_extend(table, 160, aux, 47, challenges, 15, answers, WORDS), U32_TABLE_SHAPE);
+    REFUSED(u32_table_extend(table, 160, aux, 48, challenges, 14, answers, WORDS), U32_TABLE_SHAPE);
+    REFUSED(u32_table_extend(table, 160, aux, 48, challenges, 15, answers, 2), U32_TABLE_SHAPE);
+    challenges[3] = U32_TABLE_P;
+    REFUSED(extend(16), U32_TABLE_UNREDUCED);
+    challenges[3] = 1000 + 77 * 3;
+    uint64_t zeros[15] = {0};
+    REFUSED(u32_table_extend(table, 160, aux, 48, zeros, 15, answers, WORDS), U32_TABLE_FLAT);
+    keep();
+    expect("extend", extend(16), 0);
+    answered("the last sum", 3, aux + 45);
+    expect("aux past the rows", aux[48], MARK);
+    DONE(extend(0), 3, 0, 0, 0);
+
+    /* the check: zero and nothing more; what it refuses; a forged comparison */
+    DONE(check(16), 1, 0);
+    REFUSED(u32_table_check(table, 160, aux, 48, challenges, 15, answers, 6), U32_TABLE_SHAPE);
+    REFUSED(u32_table_check(table, 160, aux, 45, challenges, 15, answers, WORDS), U32_TABLE_SHAPE);
+    REFUSED(check(0), U32_TABLE_SHORT);
+    uint64_t sum = aux[0];
+    aux[0] = U32_TABLE_P;
+    REFUSED(check(16), U32_TABLE_UNREDUCED);
+    aux[0] = sum;
+    table[30 + U32_TABLE_RESULT] = 0;
+    expect("extend", extend(16), 0);
+    keep();
+    expect("forged", check(16), 0);
+    expect("not zero", answers[0], 1);
+    expect("group", answers[1], 2);
+    expect("row", answers[2], 3);
+    expect("value", answers[4] != 0 || answers[5] != 0 || answers[6] != 0, 1);
+    expect("past the answers", answers[7], MARK);
+    printf("lt 2, 3 with Result 0: nonzero, group %" PRIu64 " row %" PRIu64 " index %" PRIu64 "\n", answers[1], answers[2], answers[3]);
+}
+
+int main(void) {
+    lists();
+    tables();
+    printf("%u comparisons, %u failed\n", tried, failed);
+    return failed != 0;
+}

@@ -1,0 +1,103 @@
+#!/usr/bin/env python3
+"""Runs call vectors through the C functions: tests/ffi/vectors.py LIBRARY.so FILE.jsonl ..
+
+Each vector is made twice: with `answers` two words longer than stated, of which the last two must stay as they were, and with one word
+too few, which must give 1 and change nothing. The number, the answers and every array are compared. Prints how many vectors of each call had
+each number, and ends with status 1 where anything differs.
+"""
+import collections
+import ctypes
+import json
+import sys
+
+MARK = 7777
+STATED = {"record": 2, "compare": 1, "plan": 2, "read": 1, "write": 1, "fill": 1, "pad": 0, "extend": 3, "check": 7}
+# the arguments in order: numbers by name, arrays in brackets
+ARGUMENTS = {
+    "record": "capacity used [keys] [mults] entry",
+    "compare": "a b",
+    "plan": "capacity used [keys] [mults]",
+    "read": "[bytes] capacity used [keys] [mults]",
+    "write": "capacity used [keys] [mults] [out]",
+    "fill": "capacity used [keys] [mults] [table]",
+    "pad": "[table] filled",
+    "extend": "[table] [aux] [challenges]",
+    "check": "[table] [aux] [challenges]",
+}
+
+
+def numbers(value):
+    """A number, a list of numbers or bytes in hexadecimal digits, as a list of numbers."""
+    return [int(v) for v in value] if isinstance(value, list) else [int(value)]
+
+
+def content(name, value):
+    return list(bytes.fromhex(value)) if name in ("bytes", "out") else numbers(value)
+
+
+def make(library, vector, words):
+    """The number returned, the words of `answers` and every array afterwards."""
+    arguments, arrays = [], {}
+    for word in ARGUMENTS[vector["call"]].split():
+        name = word.strip("[]")
+        if name == word:
+            arguments += [ctypes.c_uint64(n) for n in numbers(vector["in"][name])]
+        else:
+            values = content(name, vector["in"][name])
+            kind = ctypes.c_uint8 if name in ("bytes", "out") else ctypes.c_uint64
+            arrays[name] = (kind * len(values))(*values)
+            arguments += [arrays[name], ctypes.c_size_t(len(values))]
+    answers = (ctypes.c_uint64 * words)(*[MARK] * words)
+    if STATED[vector["call"]]:
+        arguments += [answers, ctypes.c_size_t(words)]
+    function = getattr(library, "u32_table_" + vector["call"])
+    function.restype = ctypes.c_uint64
+    return function(*arguments), list(answers), {name: list(array) for name, array in arrays.items()}
+
+
+def wanted(vector):
+    """The number and the answers that are due."""
+    kind, value = vector["answer"]
+    if kind == "refused":
+        return int(value), []
+    call = vector["call"]
+    if call == "record":
+        return 0, [int(value), int(vector["after"]["used"])]
+    if call == "compare":
+        return 0, [{"-1": 0, "0": 1, "1": 2}[value]]
+    if call == "pad":
+        return 0, []
+    if call == "check":
+        return 0, [0] if value == "zero" else [1] + numbers(value[:3]) + numbers(value[3])
+    return 0, numbers(value)
+
+
+def main():
+    library = ctypes.CDLL(sys.argv[1])
+    counts, differ = collections.Counter(), 0
+    for path in sys.argv[2:]:
+        for line in open(path):
+            vector = json.loads(line)
+            call = vector["call"]
+            if call not in STATED or vector.get("slips"):
+                continue
+            before = {name: content(name, vector["in"][name]) for name in vector["in"]
+                      if f"[{name}]" in ARGUMENTS[call]}
+            after = {**before, **{name: content(name, value) for name, value in vector.get("after", {}).items() if name in before}}
+            number, answers = wanted(vector)
+            got = make(library, vector, STATED[call] + 2)
+            due = number, answers + [MARK] * (STATED[call] + 2 - len(answers)), after
+            if STATED[call]:
+                short = STATED[call] - 1
+                got, due = (got, make(library, vector, short)), (due, (1, [MARK] * short, before))
+            if got != due:
+                differ += 1
+                print(f"{path}: {call} differs: {got[:2]}, wanted {due[:2]}")
+            counts[call, number] += 1
+    for call in STATED:
+        print(call, " ".join(f"{number}: {n}" for (c, number), n in sorted(counts.items()) if c == call))
+    print(f"{sum(counts.values())} vectors, {differ} differ")
+    sys.exit(differ != 0 or not counts)
+
+
+main()
