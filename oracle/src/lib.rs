@@ -325,6 +325,21 @@ impl Constraints {
         }
     }
 
+    /// All forty values on each row and the one below it (below the last, row 0), by group, then index: `each` gets the row's number
+    /// and its values. More than a check evaluates.
+    pub fn forty(&self, rows: &[Row], aux: &[Ext], challenges: &Challenges, mut each: impl FnMut(usize, &[Ext])) {
+        let mut window = Window::new(challenges);
+        let mut values = vec![];
+        for row in 0..rows.len() {
+            let next = (row + 1) % rows.len();
+            window.set(0, &rows[row], aux[row]);
+            window.set(1, &rows[next], aux[next]);
+            values.clear();
+            (0..4).for_each(|group| values.extend(self.group(group, &window)));
+            each(row, &values);
+        }
+    }
+
     /// All values of `walk`.
     pub fn all(&self, rows: &[Row], aux: &[Ext], challenges: &Challenges) -> Vec<ConstraintValue> {
         let mut all = vec![];

@@ -1,0 +1,876 @@
+//! What is compared: a case is one input, given to the port and to the original; every word of what the two leave must agree. Where the
+//! port refuses, the number must be document 01's, nothing may be changed, and the original must do what docs/DIFFERENCES.md says of
+//! such an input.
+use std::collections::{BTreeMap, HashSet};
+
+use oracle::*;
+use twenty_first::prelude::*;
+
+use crate::port::{self, List};
+
+pub const MOST_PLACES: usize = 2048;
+const MOST: u64 = (1 << 32) - 1;
+
+/// Document 01's numbers.
+const SHAPE: u64 = 1;
+const STRANGER: u64 = 2;
+const WIDE: u64 = 3;
+const BARE_LOG: u64 = 4;
+const COUNT_FULL: u64 = 5;
+const LIST_FULL: u64 = 6;
+const SHORT: u64 = 7;
+const UNREDUCED: u64 = 8;
+const FLAT: u64 = 9;
+const TORN: u64 = 10;
+const REPEAT: u64 = 11;
+const TALLY: u64 = 12;
+
+/// Rows of the table in docs/DIFFERENCES.md, by their first cell. A refusal, or a panic of the original, that is none of them is a
+/// difference.
+mod listed {
+    pub const LOG_OF_ZERO: &str = "log_2_floor of 0";
+    pub const WIDE: &str = "an operand past its range";
+    pub const OPCODE: &str = "an opcode outside the six";
+    pub const ORDER: &str = "equality and order of entries";
+    pub const MULTIPLICITY: &str = "multiplicities";
+    pub const SIZE: &str = "the size of a list";
+    pub const PADDED: &str = "padded height";
+    pub const WORDS: &str = "words of p or more";
+    pub const BELOW: &str = "a table below the height";
+    pub const FILLED: &str = "a filled count above the rows";
+    pub const FLAT: &str = "a denominator without inverse";
+
+    const PAGE: &str = include_str!("../../../docs/DIFFERENCES.md");
+
+    pub fn is_listed(name: &str) -> bool {
+        PAGE.lines().any(|line| line.starts_with(&format!("| {name} |")))
+    }
+}
+
+/// How much was compared.
+#[derive(Default, Clone)]
+pub struct Counts {
+    pub lists: u64,
+    pub entries: u64,
+    pub list_rows: u64,
+    pub tables: u64,
+    pub table_rows: u64,
+    pub words: u64,
+    pub values: u64,
+    pub nonzero: u64,
+    pub verdicts: [u64; 2],
+    pub heights: u64,
+    pub recordings: u64,
+    pub orders: u64,
+    pub round_trips: u64,
+    pub elements: u64,
+    pub refusals: [u64; 13],
+    pub panics: u64,
+    pub listed: BTreeMap<&'static str, u64>,
+}
+
+#[derive(Debug, Clone)]
+pub enum Case {
+    /// The list with `spare` unused places, into `extra` rows more than its height.
+    List {
+        list: Vec<Entry>,
+        spare: usize,
+        extra: usize,
+        challenges: Challenges,
+    },
+    /// A table that need not be filled by anyone.
+    Table {
+        rows: Vec<Row>,
+        aux: Vec<Ext>,
+        challenges: Challenges,
+        filled: usize,
+    },
+    /// Recordings, one after the other, onto a list without repeats.
+    Record {
+        list: Vec<Entry>,
+        capacity: usize,
+        keys: Vec<Key>,
+    },
+    Order {
+        left: Key,
+        right: Key,
+    },
+    /// Products of neighbours, inverses of each word, and of each three.
+    Elements {
+        words: Vec<u64>,
+    },
+    /// Arrays of a wrong shape.
+    Shapes,
+}
+
+pub type Same = Result<(), String>;
+
+pub struct Comparison {
+    pub constraints: Constraints,
+    pub counts: Counts,
+}
+
+/// What stands in a place before a call.
+fn old_words(n: usize) -> Vec<u64> {
+    (0..n as u64).map(|i| (i + 1).wrapping_mul(0x9e37_79b9_7f4a_7c15) | 1).collect()
+}
+
+fn flat<const N: usize>(rows: &[[u64; N]]) -> Vec<u64> {
+    rows.as_flattened().to_vec()
+}
+
+fn reduced<const N: usize>(rows: &[[u64; N]]) -> Vec<[u64; N]> {
+    rows.iter().map(|row| row.map(|word| word % P)).collect()
+}
+
+fn is_reduced(words: &[u64]) -> bool {
+    words.iter().all(|&word| word < P)
+}
+
+/// Document 01: the first of the reasons 2 to 4 for a key.
+fn key_reason([opcode, lhs, rhs]: Key) -> Option<u64> {
+    let most_lhs = if opcode == 30 { P - 1 } else { MOST };
+    match () {
+        _ if !OPCODES.contains(&opcode) => Some(STRANGER),
+        _ if lhs > most_lhs || rhs > MOST => Some(WIDE),
+        _ if opcode == 12 && lhs == 0 => Some(BARE_LOG),
+        _ => None,
+    }
+}
+
+/// Document 01: the first of the reasons 2 to 5 for an entry.
+fn entry_reason(entry: &Entry) -> Option<u64> {
+    key_reason(entry.key).or((entry.multiplicity > MOST).then_some(COUNT_FULL))
+}
+
+fn has_repeats(list: &[Entry]) -> bool {
+    let mut seen = HashSet::new();
+    !list.iter().all(|entry| seen.insert(entry.key))
+}
+
+/// Document 01's stored form.
+fn stored(list: &[Entry], height: usize) -> Vec<u8> {
+    let mut bytes = vec![];
+    bytes.extend((list.len() as u32).to_le_bytes());
+    bytes.extend((height as u32).to_le_bytes());
+    for Entry { key: [opcode, lhs, rhs], .. } in list {
+        bytes.push(*opcode as u8);
+        bytes.extend(lhs.to_le_bytes());
+        bytes.extend(rhs.to_le_bytes());
+    }
+    list.iter().for_each(|entry| bytes.extend((entry.multiplicity as u32).to_le_bytes()));
+    bytes
+}
+
+/// The list in the port's arrays; unused places hold other words.
+fn arrays(list: &[Entry], capacity: usize) -> List {
+    let (mut keys, mut multiplicities) = (old_words(3 * capacity), old_words(capacity));
+    for (i, entry) in list.iter().enumerate() {
+        keys[3 * i..3 * i + 3].copy_from_slice(&entry.key);
+        multiplicities[i] = entry.multiplicity;
+    }
+    List { capacity, used: list.len(), keys, multiplicities }
+}
+
+fn agree(what: &str, ours: impl std::fmt::Debug, theirs: impl std::fmt::Debug, agrees: bool) -> Same {
+    if agrees { Ok(()) } else { Err(format!("{what}: the port has {ours:?}, the original {theirs:?}")) }
+}
+
+/// A call of the original that must not panic.
+fn theirs<T>(what: &str, call: impl FnOnce() -> T) -> Result<T, String> {
+    caught(call).map_err(|message| format!("{what}: the original panics: {message}"))
+}
+
+impl Comparison {
+    pub fn new() -> Self {
+        Self { constraints: Constraints::new(), counts: Counts::default() }
+    }
+
+    /// The first difference on this case, if there is one.
+    pub fn differs(&mut self, case: &Case) -> Option<String> {
+        let same = caught(|| match case {
+            Case::List { list, spare, extra, challenges } => self.list(list, *spare, *extra, challenges),
+            Case::Table { rows, aux, challenges, filled } => self.table(rows, aux, challenges, *filled),
+            Case::Record { list, capacity, keys } => self.record(list, *capacity, keys),
+            Case::Order { left, right } => self.order(*left, *right),
+            Case::Elements { words } => self.elements(words),
+            Case::Shapes => self.shapes(),
+        });
+        same.unwrap_or_else(Err).err()
+    }
+
+    /// The original does what the page says of such an input.
+    fn note(&mut self, listed: &'static str) {
+        let count = self.counts.listed.entry(listed).or_insert_with(|| {
+            assert!(listed::is_listed(listed), "docs/DIFFERENCES.md has no row '{listed}'");
+            0
+        });
+        *count += 1;
+    }
+
+    fn same(&mut self, what: &str, ours: &[u64], theirs: &[u64]) -> Same {
+        self.counts.words += theirs.len() as u64;
+        if ours == theirs {
+            return Ok(());
+        }
+        if ours.len() != theirs.len() {
+            return Err(format!("{what}: the port has {} words, the original {}", ours.len(), theirs.len()));
+        }
+        let i = (0..ours.len()).find(|&i| ours[i] != theirs[i]).unwrap();
+        Err(format!("{what}: word {i} of {}: the port has {}, the original {}", ours.len(), ours[i], theirs[i]))
+    }
+
+    /// Words that must be as they were.
+    fn untouched(&mut self, what: &str, after: &[u64], before: &[u64]) -> Same {
+        self.counts.words += before.len() as u64;
+        match (0..before.len()).find(|&i| after[i] != before[i]) {
+            None => Ok(()),
+            Some(i) => Err(format!("{what}: word {i} is to stay {} and is {}", before[i], after[i])),
+        }
+    }
+
+    /// The port must refuse with this number.
+    fn refused<const N: usize>(&mut self, what: &str, answer: port::Answer<N>, number: u64) -> Same {
+        self.counts.refusals[number as usize] += 1;
+        match answer {
+            Err(found) if found == number => Ok(()),
+            _ => Err(format!("{what}: the port has {answer:?}, document 01 refusal {number}")),
+        }
+    }
+
+    /// The original must panic.
+    fn panics<T>(&mut self, what: &str, call: impl FnOnce() -> T) -> Same {
+        self.counts.panics += 1;
+        match caught(call) {
+            Err(_) => Ok(()),
+            Ok(_) => Err(format!("{what}: the original is to panic and does not")),
+        }
+    }
+
+    /// Arrays of a wrong shape: refused with 1, with nothing changed. The original's arrays carry
+    /// their shape; what it can be given of these, an aux table of another height, it asserts.
+    fn shapes(&mut self) -> Same {
+        let old = arrays(&[entry(14, 3, 1, 2)], 2);
+        let wrong: [&dyn Fn(&mut List); 7] = [
+            &|list| list.keys.truncate(5),
+            &|list| list.keys.push(1),
+            &|list| list.multiplicities.truncate(1),
+            &|list| list.multiplicities.push(1),
+            &|list| list.used = 3,
+            &|list| list.capacity = 1,
+            &|list| *list = arrays(&[], MOST_PLACES + 1),
+        ];
+        for change in wrong {
+            let mut list = old.clone();
+            change(&mut list);
+            let before = list.clone();
+            let answer = port::record(&mut list, [14, 3, 1]);
+            self.refused("record with a wrong shape", answer, SHAPE)?;
+            let answer = port::plan(&list);
+            self.refused("plan with a wrong shape", answer, SHAPE)?;
+            let mut table = old_words(100);
+            let answer = port::fill(&list, &mut table);
+            self.refused("fill with a wrong shape", answer, SHAPE)?;
+            self.untouched("fill, refused: table", &table, &old_words(100))?;
+            let mut bytes = vec![7; 100];
+            let answer = port::write(&list, &mut bytes);
+            self.refused("write with a wrong shape", answer, SHAPE)?;
+            agree("write, refused: bytes", &bytes, 7, bytes.iter().all(|&byte| byte == 7))?;
+            let answer = port::read(&stored(&[entry(14, 3, 1, 2)], 3), &mut list);
+            self.refused("read with a wrong shape", answer, SHAPE)?;
+            agree("the list after refusals", &list, &before, list == before)?;
+        }
+        for words in [1, 9, 11, 29] {
+            let mut table = old_words(words);
+            let answer = port::fill(&old, &mut table);
+            self.refused("fill of no whole rows", answer, SHAPE)?;
+            let answer = port::pad(&mut table, 0);
+            self.refused("pad of no whole rows", answer, SHAPE)?;
+            self.untouched("no whole rows", &table, &old_words(words))?;
+        }
+        let table = vec![0; 20];
+        for (aux_words, challenge_words) in [(5, 15), (7, 15), (9, 15), (0, 15), (6, 14), (6, 16), (6, 0)] {
+            let (mut aux, challenges) = (old_words(aux_words), vec![1; challenge_words]);
+            let answer = port::extend(&table, &mut aux, &challenges);
+            self.refused("extend with a wrong shape", answer, SHAPE)?;
+            self.untouched("extend, refused: aux", &aux, &old_words(aux_words))?;
+            let answer = port::check(&table, &aux, &challenges);
+            self.refused("check with a wrong shape", answer, SHAPE)?;
+        }
+        Ok(())
+    }
+
+    // ------------------------------------------------------------------------------------------------------------------ lists
+
+    fn list(&mut self, list: &[Entry], spare: usize, extra: usize, challenges: &Challenges) -> Same {
+        let ours = arrays(list, list.len() + spare);
+        if let Some(entry) = list.iter().find(|entry| entry_reason(entry).is_some()) {
+            return self.refused_list(list, &ours, extra, entry);
+        }
+        self.counts.lists += 1;
+        self.counts.entries += list.len() as u64;
+
+        let height = theirs("height", || list_height(list))?;
+        self.heights(list, &ours, height)?;
+        let table = self.filled(list, &ours, height, extra)?;
+        self.counts.list_rows += table.len() as u64;
+        if !table.is_empty() {
+            let aux = self.extended(&table, challenges)?;
+            if let Some(aux) = aux {
+                let verdict = self.checked(&table, &aux, challenges)?;
+                agree("the check of an honest table", verdict, None::<()>, verdict.is_none())?;
+            }
+        }
+        self.round_trip(list, &ours, height)
+    }
+
+    /// Plan, each entry's height, and the order of neighbours.
+    fn heights(&mut self, list: &[Entry], ours: &List, height: usize) -> Same {
+        let plan = port::plan(ours);
+        let padded = height.max(1).next_power_of_two();
+        self.counts.heights += 1 + list.len() as u64;
+        agree("plan", plan, [height, padded], plan == Ok([height as u64, padded as u64]))?;
+        if !has_repeats(list) {
+            // The original's is that of its largest table; the byte lookup's has 256 rows.
+            let original = theirs("padded height", || original_padded_height(list))?;
+            agree("padded height", padded, original, original == padded.max(256))?;
+            self.note(listed::PADDED);
+        }
+        for entry in list {
+            let one = port::plan(&arrays(&[*entry], 1)).map(|[height, _]| height);
+            let theirs = theirs("height", || oracle::height(entry.key))?;
+            agree("height of an entry", one, theirs, one == Ok(theirs))?;
+        }
+        list.windows(2).try_for_each(|pair| self.order(pair[0].key, pair[1].key))
+    }
+
+    /// Filled, then padded, by both.
+    fn filled(&mut self, list: &[Entry], ours: &List, height: usize, extra: usize) -> Result<Vec<Row>, String> {
+        let n = height + extra;
+        let old = old_words(10 * n);
+        let mut table = old.clone();
+        let answer = port::fill(ours, &mut table);
+        agree("fill", answer, height, answer == Ok([height as u64]))?;
+        let mut rows: Vec<Row> = reduced(old.as_chunks().0);
+        let filled = theirs("fill", || {
+            let filled = fill(list, &mut rows);
+            (filled, rows)
+        })?;
+        let (answer, mut rows) = filled;
+        agree("fill", height, answer, answer == height)?;
+        let end = 10 * height;
+        self.same("fill: table", &table[..end], &rows.as_flattened()[..end])?;
+        self.untouched("fill: rows past the height", &table[end..], &old[end..])?;
+
+        if height > 0 {
+            let mut short = old[..end - 10].to_vec();
+            let answer = port::fill(ours, &mut short);
+            self.refused("fill, one row fewer", answer, SHORT)?;
+            self.untouched("fill, refused: table", &short, &old[..end - 10])?;
+            self.panics("fill, one row fewer", || fill(list, &mut reduced(&vec![[0; 10]; height - 1])))?;
+            self.note(listed::BELOW);
+        }
+
+        let answer = port::pad(&mut table, height);
+        agree("pad", answer, "done", answer.is_ok())?;
+        rows = theirs("pad", || {
+            pad(&mut rows, height);
+            rows
+        })?;
+        self.same("pad: table", &table, rows.as_flattened())?;
+        Ok(rows)
+    }
+
+    /// Written, and read back. A stored list is not the original's: the bytes are compared with document 01's form.
+    fn round_trip(&mut self, list: &[Entry], ours: &List, height: usize) -> Same {
+        self.counts.round_trips += 1;
+        let bytes = stored(list, height);
+        let old: Vec<u8> = old_words(bytes.len() + 5).iter().map(|&word| (word >> 8) as u8).collect();
+        let mut out = old.clone();
+        let answer = port::write(ours, &mut out);
+        let mut fresh = arrays(&[], ours.capacity);
+        let before = fresh.clone();
+        if has_repeats(list) {
+            self.refused("write", answer, REPEAT)?;
+            agree("write, refused: bytes", &out, &old, out == old)?;
+            let read = port::read(&bytes, &mut fresh);
+            self.refused("read", read, REPEAT)?;
+            return agree("read, refused: list", &fresh, &before, fresh == before);
+        }
+        agree("write", answer, bytes.len(), answer == Ok([bytes.len() as u64]))?;
+        agree("write: bytes", &out[..bytes.len()], &bytes, out[..bytes.len()] == bytes)?;
+        agree("write: bytes past the end", &out[bytes.len()..], &old[bytes.len()..], out[bytes.len()..] == old[bytes.len()..])?;
+        let mut short = old[..bytes.len() - 1].to_vec();
+        let answer = port::write(ours, &mut short);
+        self.refused("write, one byte fewer", answer, SHORT)?;
+        agree("write, refused: bytes", &short, &old, short == old[..short.len()])?;
+
+        let answer = port::read(&bytes, &mut fresh);
+        agree("read", answer, list.len(), answer == Ok([list.len() as u64]))?;
+        self.same("read: keys", &fresh.keys, &ours.keys)?;
+        self.same("read: multiplicities", &fresh.multiplicities, &ours.multiplicities)?;
+
+        self.unreadable("read, one byte fewer", &bytes[..bytes.len() - 1], ours.capacity, TORN)?;
+        self.unreadable("read, another height", &stored(list, height + 1), ours.capacity, TALLY)?;
+        if !list.is_empty() {
+            self.unreadable("read, one place too few", &bytes, list.len() - 1, LIST_FULL)?;
+        }
+        Ok(())
+    }
+
+    /// Bytes that reading must refuse with this number, the list being as before.
+    fn unreadable(&mut self, what: &str, bytes: &[u8], capacity: usize, number: u64) -> Same {
+        let mut list = arrays(&[], capacity);
+        let answer = port::read(bytes, &mut list);
+        self.refused(what, answer, number)?;
+        self.untouched(what, &list.keys, &old_words(3 * capacity))?;
+        self.untouched(what, &list.multiplicities, &old_words(capacity))
+    }
+
+    /// A list that document 01 does not admit; `entry` is the first entry that it refuses.
+    fn refused_list(&mut self, list: &[Entry], ours: &List, extra: usize, entry: &Entry) -> Same {
+        let reason = entry_reason(entry).unwrap();
+        let plan = port::plan(ours);
+        self.refused("plan", plan, reason)?;
+        let old = old_words(10 * (34 * list.len() + extra));
+        let mut table = old.clone();
+        let filled = port::fill(ours, &mut table);
+        self.refused("fill", filled, reason)?;
+        self.untouched("fill, refused: table", &table, &old)?;
+        let mut out = vec![7; 8 + 21 * list.len()];
+        let written = port::write(ours, &mut out);
+        self.refused("write", written, reason)?;
+        agree("write, refused: bytes", &out, 7, out.iter().all(|&byte| byte == 7))?;
+        // Stored, a multiplicity has four bytes and an opcode one.
+        let unreadable = list.iter().find_map(|entry| key_reason(entry.key));
+        if let Some(reason) = unreadable.filter(|_| list.iter().all(|entry| entry.key[0] < 256)) {
+            self.unreadable("read", &stored(list, 0), ours.capacity, reason)?;
+        }
+        self.refused_entry(entry, reason)
+    }
+
+    /// The original on an entry that document 01 refuses.
+    fn refused_entry(&mut self, entry: &Entry, reason: u64) -> Same {
+        let below_p = Entry { key: entry.key.map(|word| word % P), ..*entry };
+        match reason {
+            STRANGER => {
+                self.note(listed::OPCODE);
+                self.panics("fill with another opcode", || filled(&[*entry]))
+            }
+            WIDE if below_p != *entry => {
+                self.note(listed::WORDS);
+                let both = [caught(|| filled(&[*entry])).ok(), caught(|| filled(&[below_p])).ok()];
+                agree("operands of p or more", &both[0], &both[1], both[0] == both[1])
+            }
+            WIDE => {
+                self.note(listed::WIDE);
+                self.panics("fill with a wide operand", || filled(&[*entry]))
+            }
+            BARE_LOG => {
+                self.note(listed::LOG_OF_ZERO);
+                let rows = theirs("fill with log_2_floor of 0", || filled(&[*entry]))?;
+                agree("log_2_floor of 0: Result", P - 1, rows[0][8], rows[0][8] == P - 1)?;
+                let one: Challenges = std::array::from_fn(|i| (i == 0) as u64);
+                let aux = theirs("extend", || extend(&rows, &one))?;
+                let verdict = self.constraints.verdict(&rows, &aux, &one);
+                let found = verdict.map(|value| (value.group, value.row, value.index, value.value));
+                let listed = Some((1, 0, 13, [18446744069414556673, 0, 0]));
+                agree("log_2_floor of 0: the original's own constraint", listed, found, found == listed)
+            }
+            _ => {
+                self.note(listed::MULTIPLICITY);
+                let rows = theirs("fill with a large multiplicity", || filled(&[*entry]))?;
+                let expected = entry.multiplicity % P;
+                agree("a large multiplicity", expected, rows[0][9], rows[0][9] == expected)
+            }
+        }
+    }
+
+    // ----------------------------------------------------------------------------------------------------------------- tables
+
+    fn table(&mut self, rows: &[Row], aux: &[Ext], challenges: &Challenges, filled: usize) -> Same {
+        self.counts.tables += 1;
+        self.counts.table_rows += rows.len() as u64;
+        self.padded(rows, filled)?;
+        if is_reduced(rows.as_flattened()) && is_reduced(challenges) {
+            self.extended(rows, challenges)?;
+        } else {
+            let old = old_words(3 * rows.len());
+            let mut sums = old.clone();
+            let answer = port::extend(rows.as_flattened(), &mut sums, challenges);
+            self.refused("extend", answer, UNREDUCED)?;
+            self.untouched("extend, refused: aux", &sums, &old)?;
+            let both = [(reduced(rows), challenges.map(|word| word % P)), (rows.to_vec(), *challenges)]
+                .map(|(rows, challenges)| caught(|| extend(&rows, &challenges)).ok());
+            agree("extension of words of p or more", &both[0], &both[1], both[0] == both[1])?;
+            self.note(listed::WORDS);
+        }
+        if rows.is_empty() {
+            let answer = port::check(&[], &[], challenges);
+            return self.refused("check of no rows", answer, SHORT);
+        }
+        if is_reduced(rows.as_flattened()) && is_reduced(challenges) && is_reduced(aux.as_flattened()) {
+            self.checked(rows, aux, challenges)?;
+        } else {
+            let answer = port::check(rows.as_flattened(), aux.as_flattened(), challenges);
+            self.refused("check", answer, UNREDUCED)?;
+            self.note(listed::WORDS);
+        }
+        Ok(())
+    }
+
+    fn padded(&mut self, rows: &[Row], filled: usize) -> Same {
+        let mut table = flat(rows);
+        let answer = port::pad(&mut table, filled);
+        if filled > rows.len() {
+            self.refused("pad", answer, SHORT)?;
+            self.untouched("pad, refused: table", &table, rows.as_flattened())?;
+            self.note(listed::FILLED);
+            return self.panics("pad", || pad(&mut rows.to_vec(), filled));
+        }
+        if filled > 0 && !is_reduced(&rows[filled - 1]) {
+            self.refused("pad", answer, UNREDUCED)?;
+            self.note(listed::WORDS);
+            return self.untouched("pad, refused: table", &table, rows.as_flattened());
+        }
+        agree("pad", answer, "done", answer.is_ok())?;
+        let mut expected = reduced(rows);
+        expected = theirs("pad", || {
+            pad(&mut expected, filled);
+            expected
+        })?;
+        self.untouched("pad: filled rows", &table[..10 * filled], &rows.as_flattened()[..10 * filled])?;
+        self.same("pad: padding rows", &table[10 * filled..], &expected.as_flattened()[10 * filled..])
+    }
+
+    /// The sums by both; none where a denominator has no inverse.
+    fn extended(&mut self, rows: &[Row], challenges: &Challenges) -> Result<Option<Vec<Ext>>, String> {
+        let old = old_words(3 * rows.len());
+        let mut aux = old.clone();
+        let answer = port::extend(rows.as_flattened(), &mut aux, challenges);
+        match caught(|| extend(rows, challenges)) {
+            Ok(sums) => {
+                let last = sums.last().copied().unwrap_or([0; 3]);
+                agree("extend", answer, last, answer == Ok(last))?;
+                self.same("extend: aux", &aux, sums.as_flattened())?;
+                Ok(Some(sums))
+            }
+            Err(_) => {
+                self.counts.panics += 1;
+                self.note(listed::FLAT);
+                self.refused("extend", answer, FLAT)?;
+                self.untouched("extend, refused: aux", &aux, &old)?;
+                Ok(None)
+            }
+        }
+    }
+
+    /// Every constraint on every pair of rows, and the verdict.
+    fn checked(&mut self, rows: &[Row], aux: &[Ext], challenges: &Challenges) -> Result<Option<ConstraintValue>, String> {
+        let (mut ours, mut difference, mut values, mut nonzero) = ([0; 120], None, 0, 0);
+        let (mut pair, mut sums) = ([0; 20], [0; 6]);
+        self.constraints.forty(rows, aux, challenges, |row, theirs| {
+            let next = (row + 1) % rows.len();
+            pair[..10].copy_from_slice(&rows[row]);
+            pair[10..].copy_from_slice(&rows[next]);
+            sums[..3].copy_from_slice(&aux[row]);
+            sums[3..].copy_from_slice(&aux[next]);
+            port::constraints(&pair, &sums, challenges, &mut ours);
+            values += theirs.len() as u64;
+            nonzero += theirs.iter().filter(|&value| *value != [0; 3]).count() as u64;
+            if ours != theirs.as_flattened() && difference.is_none() {
+                difference = Some(match (0..theirs.len().min(40)).find(|&i| ours[3 * i..3 * i + 3] != theirs[i]) {
+                    Some(i) => {
+                        let (group, index) = [(0, 0), (1, 1), (2, 16), (3, 38)]
+                            .into_iter()
+                            .rev()
+                            .find_map(|(group, start)| i.checked_sub(start).map(|index| (group, index)))
+                            .unwrap();
+                        let value = &ours[3 * i..3 * i + 3];
+                        format!(
+                            "constraint {group}:{index} on rows {row} and {next}: the port has {value:?}, the original {:?}",
+                            theirs[i]
+                        )
+                    }
+                    None => format!("the port has 40 constraints, the original {}", theirs.len()),
+                });
+            }
+        });
+        self.counts.values += values;
+        self.counts.nonzero += nonzero;
+        if let Some(difference) = difference {
+            return Err(difference);
+        }
+        let answer = port::check(rows.as_flattened(), aux.as_flattened(), challenges);
+        let verdict = self.constraints.verdict(rows, aux, challenges);
+        let agrees = match verdict {
+            None => matches!(answer, Ok([0, ..])),
+            Some(ConstraintValue { group, row, index, value: [a, b, c] }) => {
+                answer == Ok([1, group as u64, row as u64, index as u64, a, b, c])
+            }
+        };
+        self.counts.verdicts[verdict.is_some() as usize] += 1;
+        agree("check", answer, verdict, agrees)?;
+        Ok(verdict)
+    }
+
+    // -------------------------------------------------------------------------------------------------- recording, order, elements
+
+    fn record(&mut self, list: &[Entry], capacity: usize, keys: &[Key]) -> Same {
+        let mut ours = arrays(list, capacity);
+        let mut entries = list.to_vec();
+        for &key in keys {
+            let before = ours.clone();
+            let answer = port::record(&mut ours, key);
+            self.counts.recordings += 1;
+            let reason = key_reason(key).or_else(|| {
+                // The original, on a copy of the list so far.
+                let after = record(&entries, &[key]);
+                let position = after.iter().position(|entry| entry.key == key)?;
+                match () {
+                    _ if after[position].multiplicity > MOST => Some(COUNT_FULL),
+                    _ if after.len() > capacity => Some(LIST_FULL),
+                    _ => None,
+                }
+            });
+            if let Some(reason) = reason {
+                self.refused("record", answer, reason)?;
+                self.untouched("record, refused: keys", &ours.keys, &before.keys)?;
+                self.untouched("record, refused: multiplicities", &ours.multiplicities, &before.multiplicities)?;
+                match reason {
+                    COUNT_FULL => self.note(listed::MULTIPLICITY),
+                    LIST_FULL => self.note(listed::SIZE),
+                    _ => self.refused_entry(&Entry { key, multiplicity: 1 }, reason)?,
+                }
+                continue;
+            }
+            let after = theirs("record", || record(&entries, &[key]))?;
+            let position = after.iter().position(|entry| entry.key == key).ok_or("record: the original lost the key")?;
+            let expected = [position as u64, after.len() as u64];
+            agree("record", answer, expected, answer == Ok(expected))?;
+            ours.used = after.len();
+            let expected = arrays(&after, capacity);
+            self.same("record: keys", &ours.keys, &expected.keys)?;
+            self.same("record: multiplicities", &ours.multiplicities, &expected.multiplicities)?;
+            entries = after;
+        }
+        Ok(())
+    }
+
+    fn order(&mut self, left: Key, right: Key) -> Same {
+        self.counts.orders += 1;
+        let ours = port::compare(left, right);
+        let number = |order: std::cmp::Ordering| (order as i8 + 1) as u64;
+        // Document 01 compares any words as they are.
+        let expected = number(left.cmp(&right));
+        agree("compare", ours, expected, ours == Ok([expected]))?;
+        if !is_reduced(&left) || !is_reduced(&right) {
+            self.note(listed::ORDER);
+            return Ok(());
+        }
+        match caught(|| order(left, right)) {
+            Ok(order) => agree("compare", ours, order, ours == Ok([number(order)])),
+            Err(_) => {
+                self.counts.panics += 1;
+                self.note(listed::OPCODE);
+                let is_opcode = |key: Key| caught(|| height([key[0], 0, 0])).is_ok();
+                let listed = !is_opcode(left) || !is_opcode(right);
+                agree("compare of entries of instructions", ours, "a panic", listed)
+            }
+        }
+    }
+
+    /// The stand-in's elements: the original imports its own.
+    fn elements(&mut self, words: &[u64]) -> Same {
+        let n = words.len() / 3 * 3;
+        let words = &words[..n];
+        self.counts.elements += (2 * n + n / 3) as u64;
+        let elements: Vec<BFieldElement> = words.iter().map(|&word| BFieldElement::new(word)).collect();
+        let zero = BFieldElement::new(0);
+        let mut ours = vec![0; n];
+        if n > 0 {
+            let right = [&words[1..], &words[..1]].concat();
+            port::products(words, &right, &mut ours);
+            let products: Vec<u64> = (0..n).map(|i| (elements[i] * elements[(i + 1) % n]).value()).collect();
+            self.same("products", &ours, &products)?;
+        }
+        port::inverses(words, &mut ours);
+        let inverse_or_zero = |x: &BFieldElement| if *x == zero { 0 } else { x.inverse().value() };
+        let inverses: Vec<u64> = elements.iter().map(inverse_or_zero).collect();
+        self.same("inverses", &ours, &inverses)?;
+        port::ext_inverses(words, &mut ours);
+        let inverses = elements.as_chunks().0.iter().map(|&coefficients: &[BFieldElement; 3]| {
+            let inverse = caught(|| XFieldElement::new(coefficients).inverse());
+            inverse.map_or([0; 3], |inverse| inverse.coefficients.map(|coefficient| coefficient.value()))
+        });
+        let inverses: Vec<u64> = inverses.collect::<Vec<[u64; 3]>>().into_flattened();
+        self.same("extension inverses", &ours, &inverses)
+    }
+}
+
+// ------------------------------------------------------------------------------------------------------------------- smaller cases
+
+/// Each way to leave out a part: halves, quarters, down to single ones; of many items only large parts.
+fn without<T: Clone>(items: &[T]) -> Vec<Vec<T>> {
+    let least = if items.len() > FEW { items.len() / 16 } else { 1 };
+    let (mut ways, mut size) = (vec![], items.len());
+    while size >= least.max(1) {
+        for start in (0..items.len()).step_by(size) {
+            let end = items.len().min(start + size);
+            ways.push([&items[..start], &items[end..]].concat());
+        }
+        size /= 2;
+    }
+    ways
+}
+
+/// Of more items than this, single words are not tried.
+const FEW: usize = 64;
+
+fn smaller_words(word: u64) -> Vec<u64> {
+    let mut ways = vec![0, 1, word / 2, word.saturating_sub(1)];
+    ways.retain(|&way| way < word);
+    ways.dedup();
+    ways
+}
+
+/// Each way to make one word smaller.
+fn each_smaller(words: &[u64]) -> Vec<Vec<u64>> {
+    let mut ways = vec![];
+    for i in 0..words.len() {
+        for word in smaller_words(words[i]) {
+            let mut way = words.to_vec();
+            way[i] = word;
+            ways.push(way);
+        }
+    }
+    ways
+}
+
+fn smaller_lists(list: &[Entry]) -> Vec<Vec<Entry>> {
+    let mut ways = without(list);
+    for i in (0..list.len()).filter(|_| list.len() <= FEW) {
+        let Entry { key: [opcode, lhs, rhs], multiplicity } = list[i];
+        let words = [lhs, rhs, multiplicity];
+        for way in each_smaller(&words) {
+            let mut smaller = list.to_vec();
+            smaller[i] = entry(opcode, way[0], way[1], way[2]);
+            ways.push(smaller);
+        }
+    }
+    ways
+}
+
+fn smaller_keys(keys: &[Key]) -> Vec<Vec<Key>> {
+    let mut ways = without(keys);
+    for i in 0..keys.len() {
+        for way in each_smaller(&keys[i][1..]) {
+            let mut smaller = keys.to_vec();
+            smaller[i] = [keys[i][0], way[0], way[1]];
+            ways.push(smaller);
+        }
+    }
+    ways
+}
+
+/// U32Indeterminate 1, all weights 0.
+pub const PLAIN: Challenges = [1, 0, 0, 0, 0, 0, 0, 0, 0, 0, 0, 0, 0, 0, 0];
+
+impl Case {
+    /// Smaller cases of the same kind, the boldest first.
+    pub fn smaller(&self) -> Vec<Case> {
+        match self {
+            Case::List { list, spare, extra, challenges } => {
+                let case =
+                    |list: &[Entry], spare, extra, challenges| Case::List { list: list.to_vec(), spare, extra, challenges };
+                let mut ways: Vec<Case> =
+                    smaller_lists(list).iter().map(|list| case(list, *spare, *extra, *challenges)).collect();
+                ways.extend(smaller_words(*spare as u64).iter().map(|&spare| case(list, spare as usize, *extra, *challenges)));
+                ways.extend(smaller_words(*extra as u64).iter().map(|&extra| case(list, *spare, extra as usize, *challenges)));
+                if *challenges != PLAIN {
+                    ways.push(case(list, *spare, *extra, PLAIN));
+                }
+                ways
+            }
+            Case::Table { rows, aux, challenges, filled } => {
+                let case = |both: &[(Row, Ext)], challenges, filled| {
+                    let (rows, aux) = both.iter().copied().unzip();
+                    Case::Table { rows, aux, challenges, filled }
+                };
+                let both: Vec<(Row, Ext)> = rows.iter().copied().zip(aux.iter().copied()).collect();
+                let mut ways = vec![];
+                for way in without(&both) {
+                    ways.push(case(&way, *challenges, *filled));
+                    ways.push(case(&way, *challenges, (*filled).min(way.len())));
+                }
+                if *challenges != PLAIN {
+                    ways.push(case(&both, PLAIN, *filled));
+                }
+                for i in (0..both.len()).filter(|_| both.len() <= FEW) {
+                    let words = [&both[i].0[..], &both[i].1[..]].concat();
+                    for words in each_smaller(&words) {
+                        let mut way = both.clone();
+                        way[i] = (*words.first_chunk().unwrap(), *words.last_chunk().unwrap());
+                        ways.push(case(&way, *challenges, *filled));
+                    }
+                }
+                ways.extend(smaller_words(*filled as u64).iter().map(|&filled| case(&both, *challenges, filled as usize)));
+                ways
+            }
+            Case::Record { list, capacity, keys } => {
+                let case =
+                    |list: &[Entry], capacity, keys: &[Key]| Case::Record { list: list.to_vec(), capacity, keys: keys.to_vec() };
+                let mut ways: Vec<Case> = smaller_keys(keys).iter().map(|keys| case(list, *capacity, keys)).collect();
+                let lists = smaller_lists(list).into_iter().filter(|list| !has_repeats(list));
+                ways.extend(lists.map(|list| case(&list, *capacity, keys)));
+                let capacities = smaller_words(*capacity as u64).into_iter().filter(|&capacity| capacity >= list.len() as u64);
+                ways.extend(capacities.map(|capacity| case(list, capacity as usize, keys)));
+                ways
+            }
+            Case::Order { left, right } => {
+                let words = [&left[..], &right[..]].concat();
+                let case =
+                    |words: Vec<u64>| Case::Order { left: *words.first_chunk().unwrap(), right: *words.last_chunk().unwrap() };
+                each_smaller(&words).into_iter().map(case).collect()
+            }
+            Case::Elements { words } => {
+                let threes = words.as_chunks::<3>().0;
+                let mut ways: Vec<Vec<u64>> = without(threes).into_iter().map(|threes| threes.into_flattened()).collect();
+                ways.extend(each_smaller(words));
+                ways.into_iter().map(|words| Case::Elements { words }).collect()
+            }
+            Case::Shapes => vec![],
+        }
+    }
+}
+
+impl std::fmt::Display for Case {
+    fn fmt(&self, f: &mut std::fmt::Formatter<'_>) -> std::fmt::Result {
+        let words = |words: &[u64]| words.iter().map(u64::to_string).collect::<Vec<_>>().join(" ");
+        let entries = |f: &mut std::fmt::Formatter<'_>, list: &[Entry]| {
+            list.iter().try_for_each(|entry| writeln!(f, "  entry {} multiplicity {}", words(&entry.key), entry.multiplicity))
+        };
+        match self {
+            Case::List { list, spare, extra, challenges } => {
+                writeln!(f, "list of {}, {spare} unused places, {extra} rows past the height", list.len())?;
+                entries(f, list)?;
+                writeln!(f, "  challenges {}", words(challenges))
+            }
+            Case::Table { rows, aux, challenges, filled } => {
+                writeln!(f, "table of {}, filled count {filled}", rows.len())?;
+                for (row, aux) in rows.iter().zip(aux) {
+                    writeln!(f, "  row {} aux {}", words(row), words(aux))?;
+                }
+                writeln!(f, "  challenges {}", words(challenges))
+            }
+            Case::Record { list, capacity, keys } => {
+                writeln!(f, "recordings onto a list of {}, capacity {capacity}", list.len())?;
+                entries(f, list)?;
+                keys.iter().try_for_each(|key| writeln!(f, "  record {}", words(key)))
+            }
+            Case::Order { left, right } => writeln!(f, "order of {} and {}", words(left), words(right)),
+            Case::Elements { words: all } => writeln!(f, "elements {}", words(all)),
+            Case::Shapes => writeln!(f, "arrays of a wrong shape"),
+        }
+    }
+}

@@ -1,0 +1,394 @@
+//! The port's static library against the original: the same inputs to both, every word compared. See ../README.md.
+use std::process::ExitCode;
+use std::time::{Duration, Instant};
+
+use oracle::inputs::Random;
+use oracle::*;
+
+mod cases;
+mod port;
+
+use cases::*;
+
+const USAGE: &str = "\
+compare [--seed N] [--short | --long MINUTES | --faults]
+
+  --seed N         other pseudo-random inputs (default 1)
+  --short          fewer inputs: under a minute
+  --long MINUTES   pseudo-random inputs until the time is over
+  --faults         a test of the comparison itself: one word of what the port hands back is changed, at each place in turn; a short
+                   run must find each
+
+Ends with 0 where nothing differs, with 1 on the first difference.";
+
+#[derive(Clone, Copy)]
+struct Size {
+    /// How many entries at the edges stand in one list.
+    edge_list: usize,
+    /// Every how many-th edge operand is taken.
+    edge_step: usize,
+    rounds: u64,
+    /// Rounds go on until then.
+    until: Option<Duration>,
+}
+
+const SHORT: Size = Size { edge_list: 40, edge_step: 2, rounds: 2_000, until: None };
+const FULL: Size = Size { edge_list: 1, edge_step: 1, rounds: 60_000, until: None };
+const FAULTS: Size = Size { edge_list: 40, edge_step: 12, rounds: 40, until: None };
+
+fn main() -> ExitCode {
+    std::panic::set_hook(Box::new(|_| ()));
+    let (mut seed, mut size, mut is_self_test) = (1, FULL, false);
+    let mut arguments = std::env::args().skip(1);
+    while let Some(argument) = arguments.next() {
+        let mut number = || arguments.next().and_then(|number| number.parse::<u64>().ok());
+        match argument.as_str() {
+            "--seed" => match number() {
+                Some(number) => seed = number,
+                None => return usage(),
+            },
+            "--short" => size = SHORT,
+            "--long" => match number() {
+                Some(minutes) => size = Size { rounds: u64::MAX, until: Some(Duration::from_secs(60 * minutes)), ..FULL },
+                None => return usage(),
+            },
+            "--faults" => is_self_test = true,
+            _ => return usage(),
+        }
+    }
+    if is_self_test { self_test(seed) } else { compare(seed, size) }
+}
+
+fn usage() -> ExitCode {
+    eprintln!("{USAGE}");
+    ExitCode::from(2)
+}
+
+fn compare(seed: u64, size: Size) -> ExitCode {
+    let start = Instant::now();
+    let mut run = Run { comparison: Comparison::new(), random: Random(seed), start };
+    let difference = run.all(size);
+    let counts = &run.comparison.counts;
+    let seconds = start.elapsed().as_secs();
+    print_counts(counts);
+    match difference {
+        None => {
+            println!("seed {seed} seconds {seconds} differences 0");
+            ExitCode::SUCCESS
+        }
+        Some((case, difference)) => {
+            println!("DIFFERENCE (seed {seed}): {difference}");
+            let (case, difference) = run.smallest(case, difference);
+            println!("smallest input found: {case}there: {difference}");
+            ExitCode::FAILURE
+        }
+    }
+}
+
+fn print_counts(counts: &Counts) {
+    println!("lists {} entries {} rows {}", counts.lists, counts.entries, counts.list_rows);
+    println!("changed, foreign and random tables {} rows {}", counts.tables, counts.table_rows);
+    println!("words {} constraint values {} of them not zero {}", counts.words, counts.values, counts.nonzero);
+    println!("verdicts zero {} nonzero {}", counts.verdicts[0], counts.verdicts[1]);
+    println!(
+        "heights {} recordings {} orders {} written and read {} element operations {}",
+        counts.heights, counts.recordings, counts.orders, counts.round_trips, counts.elements
+    );
+    let refusals: Vec<String> =
+        (1..13).filter(|&i| counts.refusals[i] > 0).map(|i| format!("{i}: {}", counts.refusals[i])).collect();
+    println!(
+        "refusals {} ({}) panics of the original {}",
+        counts.refusals.iter().sum::<u64>(),
+        refusals.join(", "),
+        counts.panics
+    );
+    for (listed, count) in &counts.listed {
+        println!("  as docs/DIFFERENCES.md says, {listed}: {count}");
+    }
+}
+
+/// Each fault must be found.
+fn self_test(seed: u64) -> ExitCode {
+    let mut missed = 0;
+    for fault in port::FAULTS {
+        port::set_fault(Some(fault));
+        let mut run = Run { comparison: Comparison::new(), random: Random(seed), start: Instant::now() };
+        match run.edges(FAULTS).or_else(|| run.rounds(FAULTS)) {
+            Some((_, difference)) => println!("{fault:24} found: {}", difference.chars().take(110).collect::<String>()),
+            None => {
+                missed += 1;
+                println!("{fault:24} NOT FOUND");
+            }
+        }
+    }
+    port::set_fault(None);
+    println!("faults {} found {}", port::FAULTS.len(), port::FAULTS.len() - missed);
+    if missed == 0 { ExitCode::SUCCESS } else { ExitCode::FAILURE }
+}
+
+type Found = Option<(Case, String)>;
+
+struct Run {
+    comparison: Comparison,
+    random: Random,
+    start: Instant,
+}
+
+impl Run {
+    fn all(&mut self, size: Size) -> Found {
+        self.try_case(Case::Shapes).or_else(|| self.full_lists()).or_else(|| self.edges(size)).or_else(|| self.rounds(size))
+    }
+
+    fn try_case(&mut self, case: Case) -> Found {
+        let difference = self.comparison.differs(&case)?;
+        Some((case, difference))
+    }
+
+    /// The smallest case that differs, for at most twenty seconds.
+    fn smallest(&mut self, mut case: Case, mut difference: String) -> (Case, String) {
+        let end = Instant::now() + Duration::from_secs(20);
+        'smaller: loop {
+            for way in case.smaller() {
+                if Instant::now() > end {
+                    return (case, difference);
+                }
+                if let Some(found) = self.comparison.differs(&way) {
+                    (case, difference) = (way, found);
+                    continue 'smaller;
+                }
+            }
+            return (case, difference);
+        }
+    }
+
+    // ---------------------------------------------------------------------------------------------------------- every list shape
+
+    /// 2,048 places, all used, with and without repeats; no entries.
+    fn full_lists(&mut self) -> Found {
+        for repeats in [false, true] {
+            let list = (0..MOST_PLACES as u64).map(|i| {
+                let opcode = OPCODES[i as usize % 6];
+                let n = if repeats { i / 24 } else { i };
+                entry(opcode, n * 2_097_143 + 1, (n * n * 1021) % (1 << 32), i)
+            });
+            let case = Case::List { list: list.collect(), spare: 0, extra: 9, challenges: self.random.challenges() };
+            if let Some(found) = self.try_case(case) {
+                return Some(found);
+            }
+        }
+        for (spare, extra) in [(0, 0), (0, 1), (3, 0), (MOST_PLACES, 4)] {
+            let case = Case::List { list: vec![], spare, extra, challenges: self.random.challenges() };
+            if let Some(found) = self.try_case(case) {
+                return Some(found);
+            }
+        }
+        None
+    }
+
+    /// Every opcode with every pair of operands at the edges.
+    fn edges(&mut self, size: Size) -> Found {
+        let around = |k: u32| [(1u64 << k) - 1, 1 << k, (1 << k) + 1];
+        let mut operands: Vec<u64> = (1..=32).flat_map(around).chain([0, 1]).filter(|&operand| operand < 1 << 32).collect();
+        operands.sort();
+        operands.dedup();
+        let wide: Vec<u64> = (32..64).flat_map(around).chain([P / 2, P - 2, P - 1]).filter(|&base| base < P).collect();
+        let multiplicities: Vec<u64> = operands.clone();
+        let (few, last) = (operands.iter().step_by(size.edge_step).copied(), *operands.last()?);
+        let mut operands: Vec<u64> = few.chain([0, 1, last]).collect();
+        operands.sort();
+        operands.dedup();
+        let mut list = vec![];
+        let mut i = 0;
+        for opcode in OPCODES {
+            let bases: &[u64] = if opcode == 30 { &wide } else { &[] };
+            for &lhs in operands.iter().chain(bases).filter(|&&lhs| opcode != 12 || lhs != 0) {
+                for &rhs in &operands {
+                    i += 1;
+                    list.push(entry(opcode, lhs, rhs, multiplicities[i % multiplicities.len()]));
+                    if list.len() == size.edge_list {
+                        let extra = i % 3;
+                        let challenges = self.random.challenges();
+                        let case = Case::List { list: std::mem::take(&mut list), spare: i % 2, extra, challenges };
+                        if let Some(found) = self.try_case(case) {
+                            return Some(found);
+                        }
+                    }
+                }
+            }
+        }
+        self.try_case(Case::List { list, spare: 0, extra: 1, challenges: PLAIN })
+    }
+
+    // --------------------------------------------------------------------------------------------------------- pseudo-random ones
+
+    fn rounds(&mut self, size: Size) -> Found {
+        for round in 0..size.rounds {
+            if size.until.is_some_and(|until| self.start.elapsed() > until) {
+                return None;
+            }
+            for case in self.round(round) {
+                if let Some(found) = self.try_case(case) {
+                    return Some(found);
+                }
+            }
+        }
+        None
+    }
+
+    fn round(&mut self, round: u64) -> Vec<Case> {
+        let random = &mut self.random;
+        let most = match round % 100 {
+            0 => 400,
+            i if i % 10 == 5 => 40,
+            _ => 5,
+        };
+        let list = random.list(most);
+        let challenges = challenges(random);
+        let (spare, extra) = (random.below(4) as usize, random.below(5) as usize);
+        let small: Vec<Entry> = list.iter().take(3).copied().collect();
+        vec![
+            Case::List { list, spare, extra, challenges },
+            damaged_list(random),
+            changed_table(random, &small),
+            foreign_table(random),
+            random_table(random),
+            recordings(random),
+            order(random),
+            order(random),
+            Case::Elements { words: (0..12).map(|_| any_word(random)).collect() },
+        ]
+    }
+}
+
+/// Any word, those of p or more among them.
+fn any_word(random: &mut Random) -> u64 {
+    match random.below(4) {
+        0 => P.wrapping_add(random.below(1 << 32) - 1),
+        1 => random.word(),
+        _ => random.element(),
+    }
+}
+
+/// Random ones; now and then small ones, or an opcode as U32Indeterminate with U32CiWeight 1: then a denominator may be zero.
+fn challenges(random: &mut Random) -> Challenges {
+    match random.below(8) {
+        0 => PLAIN,
+        1 => std::array::from_fn(|i| if i % 3 == 0 { random.below(3) } else { 0 }),
+        2 => {
+            let mut challenges = [0; 15];
+            (challenges[0], challenges[9]) = (random.one_of(&OPCODES), 1);
+            challenges
+        }
+        _ => random.challenges(),
+    }
+}
+
+/// A list with an entry or two that document 01 does not admit.
+fn damaged_list(random: &mut Random) -> Case {
+    let mut list = random.list(4);
+    for _ in 0..=random.below(2) {
+        let (mut entry, any) = (random.entry(), random.word());
+        match random.below(6) {
+            0 => entry.key[0] = random.one_of(&[0, 1, 5, 7, 8, 22, 29, 31, 33, 255, 256 + 4, P + 4, any]),
+            1 => entry.key[1] = random.one_of(&[1 << 32, (1 << 32) + 1, P - 1, P, P + 1, u64::MAX, any]),
+            2 => entry.key[2] = random.one_of(&[1 << 32, (1 << 32) + 1, P - 1, P, P + 1, u64::MAX, any]),
+            3 => entry.key = [12, 0, random.operand()],
+            4 => entry.multiplicity = random.one_of(&[1 << 32, P - 1, P, P + 1, u64::MAX, any]),
+            _ => entry.key = [30, random.one_of(&[P, P + 1, u64::MAX]), random.operand()],
+        }
+        let i = random.below(list.len() as u64 + 1) as usize;
+        list.insert(i, entry);
+    }
+    Case::List { list, spare: random.below(3) as usize, extra: random.below(3) as usize, challenges: PLAIN }
+}
+
+/// The table of a list, as the original makes it, with one to three words changed; the sums old or made again.
+fn changed_table(random: &mut Random, list: &[Entry]) -> Case {
+    let challenges = random.challenges();
+    let height = list_height(list);
+    let mut rows = vec![[0; 10]; (height + random.below(3) as usize).max(1)];
+    let made = caught(|| {
+        fill(list, &mut rows);
+        pad(&mut rows, height);
+        let aux = extend(&rows, &challenges);
+        (rows, aux)
+    });
+    let Ok((mut rows, mut aux)) = made else { return foreign_table(random) };
+    for _ in 0..=random.below(3) {
+        let (row, column) = (random.below(rows.len() as u64) as usize, random.below(13) as usize);
+        let word = if column < 10 { &mut rows[row][column] } else { &mut aux[row][column - 10] };
+        let choices = [0, 1, 2, P - 1, (*word + 1) % P, *word / 2, random.one_of(&OPCODES), random.below(P)];
+        *word = random.one_of(&choices);
+    }
+    if random.below(2) == 0 {
+        aux = caught(|| extend(&rows, &challenges)).unwrap_or(aux);
+    }
+    let filled = random.below(rows.len() as u64 + 1) as usize;
+    Case::Table { rows, aux, challenges, filled }
+}
+
+/// Rows that no filler made; now and then a word of p or more, a filled count past the end, sums that fit.
+fn foreign_table(random: &mut Random) -> Case {
+    let n = random.below(9);
+    let mut rows: Vec<Row> = (0..n).map(|_| random.foreign_row()).collect();
+    let mut aux: Vec<Ext> = (0..n).map(|_| random.ext()).collect();
+    let mut challenges = challenges(random);
+    if random.below(2) == 0 {
+        aux = caught(|| extend(&rows, &challenges)).unwrap_or(aux);
+    }
+    if n > 0 && random.below(4) == 0 {
+        let row = random.below(n) as usize;
+        let high = random.one_of(&[P, P + 1, u64::MAX]);
+        match random.below(3) {
+            0 => rows[row][random.below(10) as usize] = high,
+            1 => aux[row][random.below(3) as usize] = high,
+            _ => challenges[random.below(15) as usize] = high,
+        }
+    }
+    let filled = random.below(n + 2) as usize;
+    Case::Table { rows, aux, challenges, filled }
+}
+
+/// Words below p without any shape.
+fn random_table(random: &mut Random) -> Case {
+    let n = 1 + random.below(4);
+    let rows = (0..n).map(|_| std::array::from_fn(|_| random.below(P))).collect();
+    let aux = (0..n).map(|_| std::array::from_fn(|_| random.below(P))).collect();
+    Case::Table { rows, aux, challenges: random.challenges(), filled: random.below(n + 1) as usize }
+}
+
+fn recordings(random: &mut Random) -> Case {
+    let mut keys: Vec<Key> = (0..1 + random.below(6)).map(|_| random.key()).collect();
+    let mut list: Vec<Entry> = vec![];
+    for _ in 0..random.below(4) {
+        let key = if random.below(2) == 0 { random.one_of(&keys) } else { random.key() };
+        if list.iter().all(|entry| entry.key != key) {
+            let any = random.operand();
+            let multiplicity = random.one_of(&[0, 1, (1 << 32) - 2, (1 << 32) - 1, any]);
+            list.push(Entry { key, multiplicity });
+        }
+    }
+    if random.below(4) == 0 {
+        let key = random.one_of(&[[5, 0, 0], [22, 1, 2], [14, 1 << 32, 0], [14, 0, P], [12, 0, 3], [30, P, 0], [30, 0, 1 << 32]]);
+        keys.push(key);
+    }
+    let capacity = list.len() + random.below(6) as usize;
+    let keys = (0..random.below(16)).map(|_| random.one_of(&keys)).collect();
+    Case::Record { list, capacity, keys }
+}
+
+fn order(random: &mut Random) -> Case {
+    let mut key = || match random.below(4) {
+        0 => [any_word(random), any_word(random), any_word(random)],
+        1 => [random.one_of(&[0, 1, 2, 10, 14, 22, 30]), random.element(), random.element()],
+        _ => random.key(),
+    };
+    let (left, mut right) = (key(), key());
+    match random.below(4) {
+        0 => right = left,
+        1 => right = [left[0], left[1], right[2]],
+        2 => right = [left[0], right[1], right[2]],
+        _ => (),
+    }
+    Case::Order { left, right }
+}
