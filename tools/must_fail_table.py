@@ -1,9 +1,9 @@
 #!/usr/bin/env python3
 """Makes docs/MUST-FAIL.md: each must-fail edit, what wrong program it makes, and the fact that fails first.
 
-    rt must-fail && tools/must_fail_table.py > docs/MUST-FAIL.md
+    rt must-fail && tests/must-fail-more && tools/must_fail_table.py > docs/MUST-FAIL.md
 
-Reads the edits' own comments and what the prover said of each (target/must-fail). Ends with status 1 where an edit was not tried, and where its
+Reads the edits' own comments and what the prover said of each (target/must-fail, target/must-fail-more). Ends with status 1 where an edit was not tried, and where its
 first error shows only that the proof no longer fits the code (a name that is not there), which says nothing of the contract.
 """
 import pathlib
@@ -17,7 +17,8 @@ SHAPE_ONLY = ("that can be named from here", "is not in scope")
 HEAD = """# Must-fail edits
 
 Each line is a wrong program that the prover refuses, and the fact that fails first. An edit keeps the code's shape, so what fails is a fact and not
-the fit of a proof. The gate tries every one and fails if the prover accepts it. Made by `tools/must_fail_table.py` after `rt must-fail`.
+the fit of a proof. The gate tries those of the folders `must-fail` and fails if the prover accepts one; those of `must-fail-more`, marked with +, are tried
+by `tests/must-fail-more`, so that the gate stays short. Made by `tools/must_fail_table.py`.
 
 A fact is named by its proof: *function*: `returns` is that what the function ensures holds where it returns, `loop-again` that a loop keeps its
 invariant, `NAME-requires` that what NAME requires holds where it is called; any other name is a lemma's.
@@ -34,17 +35,22 @@ def comment(edit):
 
 
 def first_error(log, folder):
-    """The file, the declaration and the message of the first error."""
+    """The file, the declaration and the message of the first error that is no consequence of another."""
     for line in log.read_text().splitlines():
         found = re.match(r"(?:note: )?(\S+?):\d+:\d+: error: (.*)", line)
         if found:
             path, message = found.groups()
+            if "was not admitted (it has holes" in message:
+                continue
             named = re.match(r"`([^`]+)`: (.*)", message)
             place = path.split(folder + "/", 1)[-1]
             return place, named.group(1) if named else "", named.group(2) if named else message
-        found = re.match(r"note: (\S+?):\d+:\d+: (it is not proved that .*?)(?: \(`([^`]+)`\))?$", line)
+        found = re.match(r"note: (\S+?):(\d+):\d+: (it is not proved that .*?)(?: \(`([^`]+)`\))?$", line)
         if found:
-            return found.group(1).split(folder + "/", 1)[-1], found.group(3) or "", found.group(2)
+            place = found.group(1).split(folder + "/", 1)[-1]
+            lines = (log.parent / place).read_text().splitlines()[int(found.group(2)) - 1 :]
+            named = re.search(r"\bfn (\w+)", "\n".join(lines[:3]))
+            return f"proofs/{named.group(1)}/Proof.antt" if named else place, found.group(4) or "", found.group(3)
     return None
 
 
@@ -64,12 +70,12 @@ def main():
     count = 0
     order = [l.split(":")[0].strip() for l in (ROOT / "crates.txt").read_text().splitlines() if ":" in l and not l.startswith("#")]
     for crate in order:
-        edits = sorted((ROOT / "crates" / crate / "must-fail").glob("*.edit"))
+        edits = sorted((ROOT / "crates" / crate).glob("must-fail*/*.edit"), key=lambda e: e.stem)
         if not edits:
             continue
         out.append(f"## {crate}\n\n| edit | the wrong program | the fact that fails |\n|---|---|---|")
         for edit in edits:
-            log = ROOT / "target" / "must-fail" / crate / edit.stem / ".log"
+            log = ROOT / "target" / edit.parent.name / crate / edit.stem / ".log"
             error = first_error(log, f"must-fail/{crate}/{edit.stem}") if log.is_file() else None
             if error is None:
                 bad.append(f"{crate}/{edit.stem}: not tried, or no error found")
@@ -78,7 +84,8 @@ def main():
             if any(words in message for words in SHAPE_ONLY):
                 bad.append(f"{crate}/{edit.stem}: {message[:100]}")
             count += 1
-            out.append(f"| {edit.stem} | {comment(edit)} | {fact(place, name)} |")
+            more = "" if edit.parent.name == "must-fail" else " +"
+            out.append(f"| {edit.stem}{more} | {comment(edit)} | {fact(place, name)} |")
         out.append("")
     out.append(f"{count} edits.")
     print("\n".join(out))

@@ -22,15 +22,16 @@ KINDS = {
 }
 KIND = {
     "field": "call", "xfield": "call", "isa": "call", "aet": "call", "stored": "call", "checker": "call", "u32_table": "call",
-    "extension": "call", "transcript": "call", "air": "theory", "honest": "theory", "round_trips": "theory", "u32list": "program",
+    "extension": "call", "transcript": "call", "air": "theory", "honest": "theory", "round_trips": "theory",
+    "printed_example": "theory", "u32list": "program",
     "ffi": "program",
 }  # fmt: skip
 
-# the columns: lists; entries and tables; elements; the check; text
+# the columns: lists; entries and C calls; elements; the check; tables; text
 LANE = {
-    "aet": 0, "stored": 0, "round_trips": 0, "words": 1, "isa": 1, "u32_table": 1, "extension": 1, "ffi": 1, "field": 2, "honest": 2,
-    "xfield": 3, "air": 3, "layout": 3, "constraints": 3, "transitions": 3, "searches": 3, "checker": 3, "text": 4, "transcript": 4,
-    "u32list": 4,
+    "lists": 0, "aet": 0, "stored": 0, "round_trips": 0, "words": 1, "isa": 1, "packed": 1, "u32_table": 4, "extension": 4, "ffi_tables": 1, "ffi": 1,
+    "field": 2, "repeats": 2, "ffi_answers": 2, "ffi_lists": 2, "honest": 2, "xfield": 3, "air": 3, "layout": 3, "constraints": 3, "transitions": 3,
+    "searches": 3, "checker": 3, "results": 4, "sections": 4, "printed_example": 4, "text": 5, "transcript": 5, "u32list": 5,
 }  # fmt: skip
 
 
@@ -60,10 +61,16 @@ def direct(deps):
 
 
 def levels(deps):
-    level = {}
+    """The crates in rows from the bottom up: a crate stands directly below the lowest that stands on it."""
+    least = {}
     for name in deps:
-        level[name] = 1 + max((level[d] for d in deps[name]), default=-1)
-    rows = [[] for _ in range(1 + max(level.values()))]
+        least[name] = 1 + max((least[d] for d in deps[name]), default=-1)
+    top = max(least.values())
+    level = {}
+    for name in reversed(list(deps)):
+        users = [level[n] for n, ds in deps.items() if name in ds]
+        level[name] = min(users, default=top + 1) - 1
+    rows = [[] for _ in range(top + 1)]
     for name in deps:
         rows[level[name]].append(name)
     return rows
