@@ -5,7 +5,7 @@
  *     cc -Iinclude program.c target/staticlib/libffi.a
  *
  * They allocate nothing, keep nothing between calls, use of the C library only memset, and may run on many threads at once. u32_table_read
- * takes about 120 KB of stack, u32_table_write 50 KB, the others at most a few KB.
+ * takes about 120 KB of stack, u32_table_write 50 KB, u32_table_fill 10 KB, the others at most 1 KB.
  *
  * Arrays. Each is a pointer and the number of its elements (words of 64 bits, or bytes). The caller sees to what the proof takes for
  * granted: a pointer is not null and is aligned, that many elements are there, and no array that a call may write overlaps another array
