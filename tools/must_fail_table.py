@@ -1,18 +1,17 @@
 #!/usr/bin/env python3
 """Makes docs/MUST-FAIL.md: each must-fail edit, what wrong program it makes, and the fact that fails first.
 
-    rt must-fail && tests/must-fail-more && tools/must_fail_table.py > docs/MUST-FAIL.md
+    rt must-fail && tests/must-fail-more && tools/must_fail_table.py > page && mv page docs/MUST-FAIL.md
 
 Reads the edits' own comments and what the prover said of each (target/must-fail, target/must-fail-more). Ends with status 1 where an edit was not tried, and where its
-first error shows only that the proof no longer fits the code (a name that is not there), which says nothing of the contract.
+first error shows only that the proof no longer fits the code (a name that is not there), which says nothing of the contract. With --keep an edit that was not tried
+here keeps the fact that the page names already: for use after the edits of some crates were tried.
 """
 import pathlib
 import re
 import sys
 
 ROOT = pathlib.Path(__file__).resolve().parent.parent
-# first errors of a rewriting step that finds nothing to rewrite, since what is stated has changed
-STEP = ("no occurrence of the path's", "no part of the goal", "no equation of the list has an instance")
 # first errors that show nothing
 SHAPE_ONLY = ("that can be named from here", "is not in scope")
 
@@ -66,10 +65,23 @@ def fact(place, name):
     return f"`{'/'.join(parts)}`: `{name}`" if name else f"`{place}`"
 
 
+def kept():
+    """The facts that the page names already, by crate and edit."""
+    facts, crate = {}, ""
+    for line in (ROOT / "docs" / "MUST-FAIL.md").read_text().splitlines():
+        if line.startswith("## "):
+            crate = line[3:].strip()
+        cells = line.split(" | ")
+        if crate and line.startswith("| ") and len(cells) >= 3 and not line.startswith("| edit |"):
+            facts[crate, cells[0][2:].removesuffix(" +")] = cells[-1].removesuffix(" |")
+    return facts
+
+
 def main():
     bad = []
+    before = kept() if "--keep" in sys.argv[1:] else {}
     out = [HEAD]
-    count = steps = 0
+    count = 0
     order = [l.split(":")[0].strip() for l in (ROOT / "crates.txt").read_text().splitlines() if ":" in l and not l.startswith("#")]
     for crate in order:
         edits = sorted((ROOT / "crates" / crate).glob("must-fail*/*.edit"), key=lambda e: e.stem)
@@ -79,6 +91,11 @@ def main():
         for edit in edits:
             log = ROOT / "target" / edit.parent.name / crate / edit.stem / ".log"
             error = first_error(log, f"must-fail/{crate}/{edit.stem}") if log.is_file() else None
+            more = "" if edit.parent.name == "must-fail" else " +"
+            if error is None and (crate, edit.stem) in before:
+                count += 1
+                out.append(f"| {edit.stem}{more} | {comment(edit)} | {before[crate, edit.stem]} |")
+                continue
             if error is None:
                 bad.append(f"{crate}/{edit.stem}: not tried, or no error found")
                 continue
@@ -86,13 +103,11 @@ def main():
             if any(words in message for words in SHAPE_ONLY):
                 bad.append(f"{crate}/{edit.stem}: {message[:100]}")
             count += 1
-            steps += any(words in message for words in STEP)
-            more = "" if edit.parent.name == "must-fail" else " +"
             out.append(f"| {edit.stem}{more} | {comment(edit)} | {fact(place, name)} |")
         out.append("")
     out.append(
-        f"{count} edits. In {steps} of them the first error is that a rewriting step of the proof finds nothing to rewrite, since what is stated has changed;\n"
-        "in the others it names the goal, or the two sides that do not agree. In none is it a name that is missing."
+        f"{count} edits. The first error names the goal, or the two sides that do not agree, or says that a rewriting step finds nothing to rewrite, since what is\n"
+        "stated has changed. In none is it a name that is missing."
     )
     print("\n".join(out))
     for line in bad:
