@@ -38,7 +38,7 @@ enum {
     U32_TABLE_LIST_FULL = 6,  /* a new key and no unused place; in reading, more entries than places */
     U32_TABLE_SHORT = 7,      /* too few rows or too few output bytes; a filled count above the rows; a check of no rows */
     U32_TABLE_UNREDUCED = 8,  /* a word that is U32_TABLE_P or more */
-    U32_TABLE_FLAT = 9,       /* a row with CopyFlag 1 whose denominator has no inverse */
+    U32_TABLE_FLAT = 9,       /* a row with CopyFlag 1 whose denominator is (0, 0, 0); see u32_table_extend */
     U32_TABLE_TORN = 10,      /* stored bytes of the wrong length, or more than 2,048 entries in them */
     U32_TABLE_REPEAT = 11,    /* equal keys in stored bytes, or in a list to be written */
     U32_TABLE_TALLY = 12      /* the stored height is not the sum of the entries' heights */
@@ -150,10 +150,12 @@ uint64_t u32_table_fill(size_t capacity, size_t used, const uint64_t *keys, size
 uint64_t u32_table_pad(uint64_t *table, size_t table_words, size_t filled);
 
 /* Extends a table: each row's three aux words become the sum so far, over the rows with CopyFlag 1, of multiplicity divided by denominator.
+ * The denominator is Indeterminate minus the compressed row, which is LhsWeight LHS + RhsWeight RHS + CiWeight CI + ResultWeight Result.
  * The old content of `aux` does not matter.
  * Answers: the three words of the last sum, zero for no rows.
  * Refusals, in this order: SHAPE (of the table, aux_words is not three a row, or challenge_words is not 15); UNREDUCED (table or
- * challenges); FLAT. */
+ * challenges); FLAT: Indeterminate equals the compressed row of some row with CopyFlag 1, whatever its multiplicity. Nothing else causes it:
+ * every element but (0, 0, 0) has an inverse. The smallest input: the row of `and 0, 0` and fifteen challenge words 0. */
 uint64_t u32_table_extend(const uint64_t *table, size_t table_words, uint64_t *aux, size_t aux_words, const uint64_t *challenges,
                           size_t challenge_words, uint64_t *answers, size_t answer_words);
 
@@ -162,6 +164,8 @@ uint64_t u32_table_extend(const uint64_t *table, size_t table_words, uint64_t *a
  * Answers: one word, 0, where every value is zero, and the other words of `answers` keep theirs; else 1, then group (0 initial,
  * 1 consistency, 2 transition, 3 terminal), row (the upper one of a pair), index in the group from 0, and the three words of the value.
  * Note that a table which fails the check is no refusal: the number is 0 and the first answer is 1.
+ * Where the first answer is 0, each row with CopyFlag 1 is in range and tells the truth, whoever made the table; and the last sum is the sum over
+ * these rows, if none of their denominators is (0, 0, 0).
  * Refusals, in this order: SHAPE (as for u32_table_extend); SHORT (no rows); UNREDUCED (table, challenges or aux). */
 uint64_t u32_table_check(const uint64_t *table, size_t table_words, const uint64_t *aux, size_t aux_words, const uint64_t *challenges,
                          size_t challenge_words, uint64_t *answers, size_t answer_words);

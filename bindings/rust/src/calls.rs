@@ -99,7 +99,8 @@ impl fmt::Display for Group {
 /// What a check finds.
 #[derive(Clone, Copy, Debug, PartialEq, Eq, Hash)]
 pub enum Verdict {
-    /// Every constraint is zero. Then each row with CopyFlag 1 tells the truth, whoever made the table, and the last sum is right.
+    /// Every constraint is zero. Then each row with CopyFlag 1 tells the truth, whoever made the table, and the last sum is the sum over
+    /// these rows, if none of their denominators is (0, 0, 0).
     Zero,
     /// The first constraint that is not zero.
     Nonzero {
@@ -227,7 +228,21 @@ pub fn pad(table: &mut [u64], filled: usize) -> Result<(), Refusal> {
 /// Extends a table: each row's three words of `aux` become the sum so far, over the rows with CopyFlag 1, of multiplicity divided by
 /// denominator. The answer is the last sum, zero for no rows. What `aux` held before does not matter.
 ///
-/// Refusals, in this order: shape; unreduced (table or challenges); flat.
+/// The denominator is U32Indeterminate minus the compressed row, the weighted sum of LHS, RHS, CI and Result.
+///
+/// Refusals, in this order: shape; unreduced (table or challenges); flat, where U32Indeterminate equals the compressed row of some row with
+/// CopyFlag 1, whatever its multiplicity. Nothing else is flat: every element but (0, 0, 0) has an inverse.
+///
+/// ```
+/// use u32_table::{Refusal, extend};
+///
+/// let and_0_0 = [1, 0, 15651782846776010939, 14, 0, 0, 0, 0, 0, 0];
+/// let mut aux = [0; 3];
+/// assert_eq!(extend(&and_0_0, &mut aux, &[0; 15]), Err(Refusal::Flat));
+/// let mut challenges = [0; 15];
+/// challenges[1] = 1;
+/// assert_eq!(extend(&and_0_0, &mut aux, &challenges), Ok([0, 0, 0]));
+/// ```
 pub fn extend(table: &[u64], aux: &mut [u64], challenges: &[u64]) -> Result<[u64; 3], Refusal> {
     let mut answers = [0; 3];
     done(sys::extend(table, aux, challenges, &mut answers))?;

@@ -23,7 +23,7 @@ pub enum Refusal {
     Short,
     /// A word that is [`P`](crate::P) or more.
     Unreduced,
-    /// A row with CopyFlag 1 whose denominator has no inverse.
+    /// A row with CopyFlag 1 whose denominator is (0, 0, 0): U32Indeterminate equals its compressed row. See [`extend`](crate::extend).
     Flat,
     /// Stored bytes of the wrong length, or more than [`MAX_PLACES`](crate::MAX_PLACES) entries in them.
     Torn,

@@ -4,7 +4,9 @@ mod common;
 use common::{list_of, tables_of, Random};
 use std::collections::BTreeSet;
 use u32_table::opcodes::{AND, LOG_2_FLOOR, LT, POW, SPLIT};
-use u32_table::{check, extend, fill, pad, plan, read, record, write, Entry, List, Refusal, Sizes, COLUMNS, MAX_ROWS, P};
+use u32_table::{
+    check, extend, fill, pad, plan, read, record, write, Entry, List, Refusal, Sizes, Verdict, COLUMNS, MAX_ROWS, P,
+};
 use Refusal::*;
 
 const WIDE: u64 = 1 << 32;
@@ -209,6 +211,60 @@ fn extend_and_check_refuse() {
     assert_eq!(check(&[], &[], &unreduced(&challenges, 0)), Err(Short));
     assert_eq!(check(&table, &unreduced(&aux, 5), &challenges), Err(Unreduced));
     assert_eq!(check(&vec![0; (MAX_ROWS + 1) * COLUMNS], &[], &challenges), Err(Shape));
+}
+
+/// Challenges with some of their words set, the others 0.
+fn challenges_with(words: &[(usize, u64)]) -> [u64; 15] {
+    let mut challenges = [0; 15];
+    for (i, word) in words {
+        challenges[*i] = *word;
+    }
+    challenges
+}
+
+#[test]
+fn flat_is_a_zero_denominator_and_nothing_else() {
+    const LHS: usize = 3;
+    const CI: usize = 9;
+    let and_3_1 = Entry { opcode: AND, left_operand: 3, right_operand: 1 };
+    let and_0_0 = Entry { opcode: AND, left_operand: 0, right_operand: 0 };
+    let lt_2_3 = Entry { opcode: LT, left_operand: 2, right_operand: 3 };
+    /// Entries with their multiplicities, words of the challenges, and what is due.
+    type Case<'a> = (&'a [(Entry, u64)], &'a [(usize, u64)], Result<[u64; 3], Refusal>);
+    let cases: [Case; 13] = [
+        (&[(and_3_1, 2)], &[(0, 1)], Ok([2, 0, 0])),
+        (&[(and_3_1, 2)], &[(1, 1)], Ok([2, 0, P - 2])),
+        (&[(and_3_1, 2)], &[(2, 1)], Ok([2, P - 2, P - 2])),
+        (&[(and_3_1, 2)], &[], Err(Flat)),
+        (&[(and_0_0, 0)], &[], Err(Flat)),
+        (&[(and_3_1, 2)], &[(LHS, 1), (0, 3)], Err(Flat)),
+        (&[(and_3_1, 2)], &[(LHS + 1, 1), (1, 3)], Err(Flat)),
+        (&[(and_3_1, 2)], &[(LHS + 1, 1), (0, 1), (1, 3)], Ok([2, 0, 0])),
+        (&[(and_3_1, 2)], &[(CI, 1), (0, AND)], Err(Flat)),
+        (&[(and_3_1, 2), (lt_2_3, 1)], &[(LHS, 1), (0, 2)], Err(Flat)),
+        (&[(and_3_1, 2), (lt_2_3, 1)], &[(0, P)], Err(Unreduced)),
+        (&[], &[], Ok([0, 0, 0])),
+        (&[], &[(0, P)], Err(Unreduced)),
+    ];
+    for (entries, words, due) in cases {
+        let keys: Vec<u64> = entries.iter().flat_map(|(e, _)| [e.opcode, e.left_operand, e.right_operand]).collect();
+        let multiplicities: Vec<u64> = entries.iter().map(|(_, multiplicity)| *multiplicity).collect();
+        let sizes = Sizes { capacity: entries.len(), used: entries.len() };
+        let rows = plan(sizes, &keys, &multiplicities).unwrap().height;
+        let (mut table, mut aux) = (vec![0; rows * COLUMNS], vec![P; rows * 3]);
+        fill(sizes, &keys, &multiplicities, &mut table).unwrap();
+        assert_eq!(extend(&table, &mut aux, &challenges_with(words)), due);
+        assert!(due.is_ok() || aux.iter().all(|word| *word == P));
+        if entries.len() == 1 && words.is_empty() {
+            // a row that does not count is not judged
+            table[0] = 2;
+            assert_eq!(extend(&table, &mut aux, &[0; 15]), Ok([0, 0, 0]));
+        }
+    }
+
+    // why the clause on the last sum asks that no denominator is zero: with all challenges 0 any sum passes
+    let table = [1, 0, 15651782846776010939, AND, 0, 0, 0, 0, 0, 0];
+    assert_eq!(check(&table, &[7, 0, 0], &[0; 15]), Ok(Verdict::Zero));
 }
 
 #[test]

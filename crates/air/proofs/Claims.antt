@@ -1,6 +1,6 @@
 -- The claims of the check, over its answer. It answers zero exactly where it does not refuse and every constraint is zero (zero-iff); then
 -- each CopyFlag 1 row tells the truth (sound), and the last running sum is the sum over the CopyFlag 1 rows where no denominator of
--- theirs is without inverse (sum).
+-- theirs is zero (sum).
 use Prim.Native.Nat.{ℕ, _+_, _-_, _<_}
 use mathlib.Core.Path.{_≡_, refl, ap, _∙_, subst}
 use mathlib.Core.Logic.{_↔_}
@@ -13,7 +13,7 @@ use Rattle.words.specs.declared.Judgement.the-variants.{Fine, Declined}
 use Rattle.air.specs.Columns.{rowAt, rowCount}
 use Rattle.air.specs.RunningSum.{lookupSum}
 use Rattle.air.specs.Check.{AllZero, initialAt, consistencyAt, transitionAt, terminalAt, ConstraintsHold, judgeCheck, firstNonzero, checkedAs, checkAll}
-use Rattle.air.specs.Claim.{RowTells, DenominatorsInvertible, lastSum}
+use Rattle.air.specs.Claim.{RowTells, DenominatorsNotZero, lastSum}
 use Rattle.air.proofs.Rows.{row-reduced}
 use Rattle.air.proofs.Values.{AllReducedX, initial-reduced, consistency-reduced, transition-reduced, terminal-reduced}
 use Rattle.air.proofs.Scan.{rows-zero, zero-rows}
@@ -74,8 +74,8 @@ module _ (table aux challenges : List ℕ) where
       let h = zero-iff .0 e in
       Soundness.sound table aux challenges (accepted table aux challenges (h .0) .table-reduced) (h .1)
 
-  pub sum : checkAll table aux challenges ≡ done [] → DenominatorsInvertible table challenges → lastSum table aux ≡ lookupSum table challenges
-  sum e invertible =
+  pub sum : checkAll table aux challenges ≡ done [] → DenominatorsNotZero table challenges → lastSum table aux ≡ lookupSum table challenges
+  sum e not-zero =
       let h = zero-iff .0 e in
       let ok = accepted table aux challenges (h .0) in
-      RunningSums.last-is-lookup-sum table aux challenges (ok .table-reduced) (ok .aux-reduced) (ok .aux-length) (h .1) invertible (ok .some-row)
+      RunningSums.last-is-lookup-sum table aux challenges (ok .table-reduced) (ok .aux-reduced) (ok .aux-length) (h .1) not-zero (ok .some-row)

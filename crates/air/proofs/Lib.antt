@@ -9,6 +9,7 @@ pub mod Pow
 pub mod PopCount
 pub mod Soundness
 pub mod Denominators
+pub mod ZeroDenominators
 pub mod RunningSums
 pub mod Values
 pub mod Scan

@@ -1,7 +1,7 @@
--- The running sum: where all constraints are zero and no CopyFlag 1 row has a denominator without inverse, each row's aux element is the
+-- The running sum: where all constraints are zero and no CopyFlag 1 row's denominator is zero, each row's aux element is the
 -- sum so far, and so the last one is the sum over the CopyFlag 1 rows. By induction on the row: the initial constraint gives the first
 -- sum, and of the two transition constraints one lets it stay where the next CopyFlag is 0, the other adds the next row where it is 1,
--- times the denominator, which its inverse cancels. Only ring laws and that inverse are used.
+-- times the denominator, which its inverse cancels. Only ring laws are used, and that every element but zero has an inverse.
 use Prim.Native.Nat.{ℕ, zero, suc, _+_, _-_, _*_, _<_}
 use mathlib.Core.Path.{_≡_, refl, sym, ap, ap₂, subst, _∙_}
 use mathlib.Core.Bool.{true}
@@ -14,15 +14,16 @@ use borrow.Author.Tests.{eq-eqb, ne-eqb}
 use Rattle.field.specs.Elements.{subF}
 use Rattle.field.proofs.Ring.{var, con, neg, _:+_, _:*_, _:-_, combine}
 use Rattle.xfield.specs.Extension.{Ext, zeroX, liftX, addX, subX, mulX, scaleX, HasInverse, Reduced}
-use Rattle.xfield.proofs.RingLawsX.{𝔼, neg-oneX, liftX-subF, scaleX-is, subX-of-red, reduced-same}
+use Rattle.xfield.proofs.RingLawsX.{𝔼, neg-oneX, liftX-subF, scaleX-is, subX-of-red, subX-reduced, reduced-same}
 use Rattle.xfield.proofs.Inverses.{invX, invX-mulX}
+use Rattle.xfield.proofs.Laws.{only-zero-has-none}
 use Rattle.air.specs.Columns.{Row, rowAt, rowCount, auxAt, auxWidth, allReduced}
-use Rattle.air.specs.Challenges.{Challenges, challengesOf, rowDenominator}
+use Rattle.air.specs.Challenges.{Challenges, challengesOf, denominator, rowDenominator}
 use Rattle.air.specs.RunningSum.{Summand, addSummand, runningSum, summandAt, lookupSum}
 use Rattle.air.specs.Constraints.{baseValue}
 use Rattle.air.specs.Constraints as Poly
 use Rattle.air.specs.Check.{ConstraintsHold}
-use Rattle.air.specs.Claim.{DenominatorsInvertible, lastSum}
+use Rattle.air.specs.Claim.{DenominatorsNotZero, lastSum}
 use Rattle.air.proofs.Rows.{element-reduced}
 use Rattle.air.proofs.Lists.{initial-zero, SumZero, sum-zero}
 use Rattle.air.proofs.Descent.{copyFlag-bit}
@@ -118,7 +119,12 @@ module _ (c : Challenges) (row : Row) (sum next : Ext) (rn : Reduced next) where
 -- ---- all rows
 module _ (table aux challenges : List ℕ) (table-reduced : allReduced table ≡ true) (aux-reduced : allReduced aux ≡ true)
     (aux-length : length aux ≡ auxWidth * rowCount table) (holds : ConstraintsHold table aux challenges)
-    (invertible : DenominatorsInvertible table challenges) where
+    (not-zero : DenominatorsNotZero table challenges) where
+  -- "every extension element with words below p but (0, 0, 0) has an inverse"
+  invertible : (i : ℕ) → i < rowCount table → rowAt table i .copyFlag ≡ 1 → HasInverse (rowDenominator (challengesOf challenges) (rowAt table i))
+  unfolding denominator
+  invertible i h f = only-zero-has-none _ (subX-reduced _ _) (not-zero i h f)
+
   aux-element : (i : ℕ) → i < rowCount table → Reduced (auxAt aux i)
   aux-element i h = element-reduced aux aux-reduced i (omega arith)
 

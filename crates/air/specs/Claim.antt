@@ -3,7 +3,7 @@ use Prim.Native.Nat.{ℕ, _-_, _^_, _<_}
 use mathlib.Core.Path.{_≡_}
 use mathlib.Core.Logic.{_≢_}
 use mathlib.Core.List.{List}
-use Rattle.xfield.specs.Extension.{Ext, HasInverse}
+use Rattle.xfield.specs.Extension.{Ext, zeroX}
 use Rattle.isa.specs.Opcodes.{opLt, opAnd, opLog2Floor, opPow, opPopCount}
 use Rattle.isa.specs.PlainFunctions.{plainLt, plainAnd, floorLog2, plainPow, oneBits}
 use Rattle.air.specs.Columns.{Row, rowAt, rowCount, auxAt}
@@ -21,10 +21,10 @@ pub record RowTells (row : Row) : Type 0 where
   -- "a CopyFlag 1 row with CI log_2_floor also has LHS not 0"
   pub log2floor-lhs : row .ci ≡ opLog2Floor → row .lhs ≢ 0
 
--- no CopyFlag 1 row has a denominator without inverse
-abbrev pub DenominatorsInvertible : List ℕ → List ℕ → Type 0
-DenominatorsInvertible table challenges =
-    (i : ℕ) → i < rowCount table → rowAt table i .copyFlag ≡ 1 → HasInverse (rowDenominator (challengesOf challenges) (rowAt table i))
+-- no CopyFlag 1 row's denominator is zero
+abbrev pub DenominatorsNotZero : List ℕ → List ℕ → Type 0
+DenominatorsNotZero table challenges =
+    (i : ℕ) → i < rowCount table → rowAt table i .copyFlag ≡ 1 → rowDenominator (challengesOf challenges) (rowAt table i) ≢ zeroX
 
 -- "Its last running sum is the last aux row's element"
 abbrev pub lastSum : List ℕ → List ℕ → Ext

@@ -10,7 +10,7 @@ use Rattle.words.specs.declared.Judgement.the-variants.{Fine}
 use Rattle.air.specs.Columns.{rowAt, rowCount}
 use Rattle.air.specs.RunningSum.{lookupSum}
 use Rattle.air.specs.Check.{nonzero, judgeCheck, ConstraintsHold}
-use Rattle.air.specs.Claim.{RowTells, DenominatorsInvertible, lastSum}
+use Rattle.air.specs.Claim.{RowTells, DenominatorsNotZero, lastSum}
 use Rattle.checker.specs.declared.Verdict.{Verdict}
 use Rattle.checker.specs.declared.Verdict.the-variants.{Zero, Nonzero, Refused}
 
@@ -31,6 +31,6 @@ ZeroIff table aux challenges r = AnswersZero r ↔ ((judgeCheck table aux challe
 abbrev pub Sound : List ℕ → Verdict → Type 0
 Sound table r = AnswersZero r → (i : ℕ) → i < rowCount table → rowAt table i .copyFlag ≡ 1 → RowTells (rowAt table i)
 
--- and the last running sum is the sum over the CopyFlag 1 rows, if no denominator of theirs is without inverse
+-- and the last running sum is the sum over the CopyFlag 1 rows, if no denominator of theirs is zero
 abbrev pub Sums : List ℕ → List ℕ → List ℕ → Verdict → Type 0
-Sums table aux challenges r = AnswersZero r → DenominatorsInvertible table challenges → lastSum table aux ≡ lookupSum table challenges
+Sums table aux challenges r = AnswersZero r → DenominatorsNotZero table challenges → lastSum table aux ≡ lookupSum table challenges

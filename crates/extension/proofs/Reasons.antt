@@ -1,10 +1,14 @@
 -- The reasons against an extension in their order, 1, 8, 9: what each answer of the three tests makes of `extendReason`, what it tells that
--- there is none, and what `extendAll` makes of it. Assumes nothing.
+-- there is none, what `extendAll` makes of it, and that its answer is 9 exactly where some CopyFlag 1 row's denominator is zero and 1 and 8
+-- are not met. Assumes nothing.
 use Prim.Native.Nat.{ℕ}
-use mathlib.Core.Path.{_≡_, refl, ap}
+use mathlib.Core.Path.{_≡_, refl, sym, ap, _∙_}
+use mathlib.Core.Logic.{_↔_}
 use mathlib.Core.Bool.{Bool, true, false, _&&_, and-eq-true-iff}
 use mathlib.Core.List.{List}
-use Rattle.words.specs.Answers.{done}
+use native.Mathlib.Omega.{arith}
+use Rattle.words.specs.Answers.{done, declined}
+use Rattle.words.specs.declared.Judgement.{Judgement}
 use Rattle.words.specs.declared.Refusal.{Refusal}
 use Rattle.words.specs.declared.Refusal.the-variants.{Shape, Unreduced, Flat}
 use Rattle.words.specs.declared.Judgement.the-variants.{Fine, Declined}
@@ -14,11 +18,14 @@ use Rattle.xfield.specs.declared.XFieldElement.{XFieldElement}
 use Rattle.xfield.specs.XFieldElements.{extOf}
 use Rattle.air.specs.Columns.{rowCount, tableShape, auxShape, allReduced}
 use Rattle.air.specs.Challenges.{challengesShape}
-use Rattle.air.specs.RunningSum.{summandAt, lookupSum}
+use Rattle.air.specs.RunningSum.{denominatorsOk, ZeroDenominator, summandAt, lookupSum}
 use Rattle.air.proofs.Rows.{Shaped, shaped}
-use Rattle.u32_table.specs.Extending.{denominatorsOk, extendReason, elementWords, sumWords, extendAll}
+use Rattle.air.proofs.ZeroDenominators as Denominators
+use Rattle.u32_table.specs.Extending.{extendReason, elementWords, sumWords, extendedAs, extendAll}
 use Rattle.extension.specs.Extensions.{IsExtended}
+use Rattle.extension.specs.Flat.{OnlyFlat, FlatExactly}
 use Rattle.extension.specs.declared.Extended.the-variants.{Sum, Refused}
+use Rattle.extension.proofs.Sums.{summand-reduced}
 
 module _ (table aux challenges : List ℕ) where
   abbrev shape : Bool
@@ -27,8 +34,8 @@ module _ (table aux challenges : List ℕ) where
   abbrev reduced : Bool
   reduced = allReduced table && allReduced challenges
 
-  abbrev invertible : Bool
-  invertible = denominatorsOk (summandAt table challenges) (rowCount table)
+  abbrev none-zero : Bool
+  none-zero = denominatorsOk (summandAt table challenges) (rowCount table)
 
   -- ---- the tests
   pub no-shape : shape ≡ false → extendReason table aux challenges ≡ Declined Shape
@@ -39,11 +46,11 @@ module _ (table aux challenges : List ℕ) where
   unfolding extendReason
   unreduced s r = rw (s, r)
 
-  pub flat : shape ≡ true → reduced ≡ true → invertible ≡ false → extendReason table aux challenges ≡ Declined Flat
+  pub flat : shape ≡ true → reduced ≡ true → none-zero ≡ false → extendReason table aux challenges ≡ Declined Flat
   unfolding extendReason
   flat s r d = rw (s, r, d)
 
-  pub fine : shape ≡ true → reduced ≡ true → invertible ≡ true → extendReason table aux challenges ≡ Fine
+  pub fine : shape ≡ true → reduced ≡ true → none-zero ≡ true → extendReason table aux challenges ≡ Fine
   unfolding extendReason
   fine s r d = rw (s, r, d)
 
@@ -52,7 +59,7 @@ module _ (table aux challenges : List ℕ) where
     pub shapes : Shaped table aux challenges
     pub table-reduced : allReduced table ≡ true
     pub challenges-reduced : allReduced challenges ≡ true
-    pub denominators : invertible ≡ true
+    pub denominators : none-zero ≡ true
 
   pub extendable : extendReason table aux challenges ≡ Fine → Extendable
   unfolding extendReason
@@ -64,7 +71,7 @@ module _ (table aux challenges : List ℕ) where
         shapes = shaped table aux challenges (decline-not-fine shape Shape (one .0));
         table-reduced = words .0;
         challenges-reduced = words .1;
-        denominators = decline-not-fine invertible Flat (eight .1);
+        denominators = decline-not-fine none-zero Flat (eight .1);
       }
 
   -- ---- answers and aux words
@@ -78,3 +85,25 @@ module _ (table aux challenges : List ℕ) where
       → after ≡ sumWords (summandAt table challenges) (rowCount table) → IsExtended (extendAll table aux challenges) (Sum sum) after
   unfolding extendAll
   extended e s w = rw e (record { answer = ap (λ (x : Ext). done (elementWords x)) s; aux = w })
+
+  -- ---- 9: each of the other ways through the tests has another number
+  pub flat-exactly : FlatExactly table aux challenges
+  unfolding extendAll
+  flat-exactly = (
+    told shape refl reduced refl none-zero refl,
+    λ o. ap (λ reason. extendedAs reason table aux challenges .answer) (flat (o .shapes) (o .reduced) (exactly .1 (o .zero-denominator))),
+  )
+    where
+      exactly : (none-zero ≡ false) ↔ ZeroDenominator (summandAt table challenges) (rowCount table)
+      exactly = Denominators.flat-exactly (summandAt table challenges) (rowCount table) (summand-reduced table challenges)
+
+      other : {reason : Judgement} → extendReason table aux challenges ≡ reason
+          → extendAll table aux challenges .answer ≡ declined Flat → extendedAs reason table aux challenges .answer .number ≡ 9
+      other r e = ap (λ reason. extendedAs reason table aux challenges .answer .number) (sym r) ∙ ap (λ a. a .number) e
+
+      told : (s : Bool) → shape ≡ s → (r : Bool) → reduced ≡ r → (d : Bool) → none-zero ≡ d
+          → extendAll table aux challenges .answer ≡ declined Flat → OnlyFlat table aux challenges
+      told false a r b d c e = absurd (let z = other (no-shape a) e in omega arith)
+      told true a false b d c e = absurd (let z = other (unreduced a b) e in omega arith)
+      told true a true b true c e = absurd (let z = other (fine a b c) e in omega arith)
+      told true a true b false c e = record { shapes = a; reduced = b; zero-denominator = exactly .0 c }

@@ -1,26 +1,25 @@
--- What the definitions of the extension say. `denominatorOk` is "has an inverse" for a CopyFlag 1 row, and `denominatorsOk` says it of each of
--- the first n rows. The words of n sums are 3 * n, and element i of them is the sum of the first i + 1 rows: all by induction on the rows.
+-- What the definitions of the extension say. The denominators of a table's rows have words below p, so reason 9 is a CopyFlag 1 row whose
+-- denominator is zero. The words of n sums are 3 * n, and element i of them is the sum of the first i + 1 rows, by induction on the rows.
 -- Then a row's turn in the loop that stores the sums, and what the loop has stored at its end. Assumes nothing.
 use Prim.Native.Nat.{ℕ, zero, suc, _+_, _*_, _<_}
 use mathlib.Core.Path.{_≡_, refl, sym, ap, _∙_}
 use mathlib.Core.Logic.{_↔_}
-use mathlib.Core.Bool.{Bool, true, false, and-eq-true-iff, true≢false}
+use mathlib.Core.Bool.{Bool, true, false, true≢false}
 use mathlib.Core.List.{List, _++_, append-nil}
 use native.Mathlib.Numerals.{add-one}
 use native.Mathlib.Omega.{arith}
-use lib.Dec.{eqb}
 use lib.ListN.{length, getD, length-append, List·getD-append, drop}
 use lib.Seq.{sets, getD-append-add, drop-length}
 use borrow.Author.Count.{below-more}
-use borrow.Author.Tests.{eqb-true, eq-eqb}
 use Rattle.words.proofs.Sets.{sets-then, sets-front}
-use Rattle.xfield.specs.Extension.{Ext, HasInverse}
-use Rattle.xfield.proofs.Inverses.{invertible-yes, invertible-true}
+use Rattle.xfield.specs.Extension.{Ext, Reduced}
+use Rattle.xfield.proofs.Laws.{subX-reduced}
 use Rattle.air.specs.Columns.{Row, rowAt, rowCount, elementAt}
-use Rattle.air.specs.Challenges.{Challenges, challengesOf}
-use Rattle.air.specs.RunningSum.{Summand, addSummand, runningSum, summandAt}
-use Rattle.air.specs.Claim.{DenominatorsInvertible}
-use Rattle.u32_table.specs.Extending.{denominatorOk, denominatorsOk, elementWords, sumWords}
+use Rattle.air.specs.Challenges.{Challenges, challengesOf, denominator}
+use Rattle.air.specs.RunningSum.{Summand, addSummand, runningSum, denominatorsOk, ZeroDenominator, summandAt}
+use Rattle.air.specs.Claim.{DenominatorsNotZero}
+use Rattle.air.proofs.ZeroDenominators.{flat-exactly}
+use Rattle.u32_table.specs.Extending.{elementWords, sumWords}
 use Rattle.extension.specs.Extensions.{summandOf}
 
 -- ---- a row and its summand
@@ -30,52 +29,26 @@ pub row-summand : (table challenges : List ℕ) (i : ℕ) {row : Row} {c : Chall
 unfolding summandAt
 row-summand table challenges i e f = rw (e, f)
 
--- ---- no denominator without inverse
+-- ---- denominators
+pub summand-reduced : (table challenges : List ℕ) (i : ℕ) → Reduced (summandAt table challenges i .denominator)
+unfolding summandAt denominator
+summand-reduced table challenges i = subX-reduced _ _
 
-pub denominator-ok-iff : (s : Summand) → (denominatorOk s ≡ true) ↔ (s .flag ≡ 1 → HasInverse (s .denominator))
-unfolding denominatorOk
-denominator-ok-iff s =
-    (λ h f. invertible-true (s .denominator) (rw (eq-eqb (s .flag) 1 f) at h), λ g. go g (eqb (s .flag) 1) refl)
-  where
-    go : (s .flag ≡ 1 → HasInverse (s .denominator)) → (t : Bool) → eqb (s .flag) 1 ≡ t → denominatorOk s ≡ true
-    go g true e = rw e (invertible-yes (s .denominator) (g (eqb-true (s .flag) 1 e)))
-    go g false e = rw e
-
-module _ (s : ℕ → Summand) where
-  pub denominators-ok-iff : (n : ℕ) → (denominatorsOk s n ≡ true) ↔ ((i : ℕ) → i < n → denominatorOk (s i) ≡ true)
-  unfolding denominatorsOk
-  denominators-ok-iff zero = (λ h i l. absurd (omega arith), λ g. refl)
-  denominators-ok-iff (suc n) =
-      let parts = and-eq-true-iff (denominatorsOk s n) (denominatorOk (s n)) in
-      let rest = denominators-ok-iff n in (
-        λ h i l. below-more _ n (rest .0 (parts .0 h .0)) (parts .0 h .1) i (omega arith),
-        λ g. parts .1 (rest .1 (λ i l. g i (omega arith)), g n (omega arith)),
-      )
-
-  -- one row more
-  pub denominators-more : (i : ℕ) → denominatorsOk s i ≡ true → denominatorOk (s i) ≡ true → denominatorsOk s (i + 1) ≡ true
-  unfolding denominatorsOk
-  denominators-more i h e = rw (add-one i, h) e
-
-  -- one that is not ok
-  pub denominators-not-ok : (n i : ℕ) → i < n → denominatorOk (s i) ≡ false → denominatorsOk s n ≡ false
-  denominators-not-ok n i l e = go (denominatorsOk s n) refl
-    where
-      go : (t : Bool) → denominatorsOk s n ≡ t → t ≡ false
-      go true h = absurd (true≢false (sym (denominators-ok-iff n .0 h i l) ∙ e))
-      go false h = refl
-
-  pub ok-inverse : (n : ℕ) → denominatorsOk s n ≡ true → (i : ℕ) → i < n → s i .flag ≡ 1 → HasInverse (s i .denominator)
-  ok-inverse n h i l = denominator-ok-iff (s i) .0 (denominators-ok-iff n .0 h i l)
-
--- of a table: not "a CopyFlag 1 denominator without inverse"
-pub denominators-invertible : (table challenges : List ℕ)
-    → (denominatorsOk (summandAt table challenges) (rowCount table) ≡ true) ↔ DenominatorsInvertible table challenges
+-- nothing is against them exactly where the check's clause on the last sum speaks
+pub denominators-not-zero : (table challenges : List ℕ)
+    → (denominatorsOk (summandAt table challenges) (rowCount table) ≡ true) ↔ DenominatorsNotZero table challenges
 unfolding summandAt
-denominators-invertible table challenges =
-    let s = summandAt table challenges in
-    let each = denominators-ok-iff s (rowCount table) in
-    (ok-inverse s (rowCount table), λ g. each .1 (λ i l. denominator-ok-iff (s i) .1 (g i l)))
+denominators-not-zero table challenges = (
+  λ h i l f e. true≢false (sym h ∙ exactly .1 (i, l, f, e)),
+  λ g. told g (denominatorsOk (summandAt table challenges) (rowCount table)) refl,
+)
+  where
+    exactly : (denominatorsOk (summandAt table challenges) (rowCount table) ≡ false) ↔ ZeroDenominator (summandAt table challenges) (rowCount table)
+    exactly = flat-exactly (summandAt table challenges) (rowCount table) (summand-reduced table challenges)
+
+    told : DenominatorsNotZero table challenges → (t : Bool) → denominatorsOk (summandAt table challenges) (rowCount table) ≡ t → t ≡ true
+    told g true e = refl
+    told g false e = let z = exactly .0 e in absurd (g (z .0) (z .1) (z .2) (z .3))
 
 -- ---- the words of the sums
 module _ (s : ℕ → Summand) where

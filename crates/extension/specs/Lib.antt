@@ -1,1 +1,2 @@
 pub mod Extensions
+pub mod Flat

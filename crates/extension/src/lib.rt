@@ -8,9 +8,9 @@ ghost use Rattle.xfield.specs.XFieldElements.{extOf};
 ghost use Rattle.xfield.proofs.Inverses.{invX};
 ghost use Rattle.air.specs.Columns.{mainWidth, auxWidth, rowAt, rowCount};
 ghost use Rattle.air.specs.Challenges.{challengeWords, rowDenominator};
-ghost use Rattle.air.specs.RunningSum.{addSummand, summandAt, lookupSum};
+ghost use Rattle.air.specs.RunningSum.{addSummand, denominatorOk, denominatorsOk, summandAt, lookupSum};
 ghost use Rattle.layout.specs.Layouts.{rowOf, challengesIn};
-ghost use Rattle.u32_table.specs.Extending.{denominatorOk, denominatorsOk, extendReason, elementWords, sumWords, extendAll};
+ghost use Rattle.u32_table.specs.Extending.{extendReason, elementWords, sumWords, extendAll};
 ghost use Rattle.extension.specs.Extensions.{summandOf, IsExtended};
 use layout::AuxRow;
 use layout::Challenges;
@@ -38,13 +38,12 @@ fn inverse_of_denominator(row: MainRow, challenges: Challenges) -> XFieldElement
     denominator_of(row, challenges).inverse_or_zero()
 }
 
-// Nothing against the denominator of row i: CopyFlag is not 1, or there is an inverse. Of other rows only CopyFlag is read.
+// Nothing against the denominator of row i: CopyFlag is not 1, or it is not zero. Of other rows only CopyFlag is read.
 fn denominator_ok(table: &[u64], i: usize, challenges: Challenges) -> bool
     requires { ⌜ mainWidth * i + mainWidth ≤ length (now table) ⌝ }
     ensures { λ r. ⌜ r ≡ denominatorOk (summandOf (challengesIn challenges) (rowAt (now (table .entry)) i)) ⌝ }
 {
-    table[MainRow::WIDTH * i] != 1
-        || denominator_of(MainRow::at(table, i), challenges).is_invertible()
+    table[MainRow::WIDTH * i] != 1 || !denominator_of(MainRow::at(table, i), challenges).is_zero()
 }
 
 // Nothing against the denominator of any row.

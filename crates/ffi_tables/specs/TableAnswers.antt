@@ -9,7 +9,7 @@ use Rattle.words.specs.declared.Judgement.the-variants.{Fine}
 use Rattle.air.specs.Columns.{rowAt, rowCount}
 use Rattle.air.specs.RunningSum.{lookupSum}
 use Rattle.air.specs.Check.{judgeCheck, ConstraintsHold}
-use Rattle.air.specs.Claim.{RowTells, DenominatorsInvertible, lastSum}
+use Rattle.air.specs.Claim.{RowTells, DenominatorsNotZero, lastSum}
 
 -- the check "answers zero": the word 0, and nothing more; else 1, then "group 0 to 3, (upper) row, index from 0 and three-word value"
 abbrev pub verdictWords : List ℕ → List ℕ
@@ -34,7 +34,7 @@ abbrev pub SaysZeroSound : List ℕ → ℕ → List ℕ → Type 0
 SaysZeroSound table r after =
     SaysZero r after → (i : ℕ) → i < rowCount table → rowAt table i .copyFlag ≡ 1 → RowTells (rowAt table i)
 
--- and the last running sum is the sum over the CopyFlag 1 rows, if no denominator of theirs is without inverse
+-- and the last running sum is the sum over the CopyFlag 1 rows, if no denominator of theirs is zero
 abbrev pub SaysZeroSums : List ℕ → List ℕ → List ℕ → ℕ → List ℕ → Type 0
 SaysZeroSums table aux challenges r after =
-    SaysZero r after → DenominatorsInvertible table challenges → lastSum table aux ≡ lookupSum table challenges
+    SaysZero r after → DenominatorsNotZero table challenges → lastSum table aux ≡ lookupSum table challenges

@@ -22,13 +22,13 @@ use Rattle.lists.specs.Lists.{U32List}
 use Rattle.lists.specs.Heights.{sectionPlaces, listHeight}
 use Rattle.air.specs.Columns.{Row, mainWidth, rowAt, rowCount, auxWidth, auxAt, tableShape, auxShape, allReduced}
 use Rattle.air.specs.Challenges.{Challenges, challengesOf, challengesShape, rowDenominator}
-use Rattle.air.specs.RunningSum.{Summand, addSummand, runningSum, summandAt, lookupSum}
+use Rattle.air.specs.RunningSum.{Summand, addSummand, runningSum, denominatorsOk, summandAt, lookupSum}
 use Rattle.air.specs.Check.{AllZero, initialAt, terminalAt, ConstraintsHold, judgeCheck, checkAll}
 use Rattle.air.proofs.Lists.{TransitionZero, SumZero, zero-initial, zero-consistency, zero-transition, zero-terminal}
 use Rattle.air.proofs.Claims.{zero-iff}
 use Rattle.sections.specs.Sections.{tableWords}
 use Rattle.u32_table.specs.Filling.{fillReason, fillAll}
-use Rattle.u32_table.specs.Extending.{denominatorsOk, elementWords, sumWords, extendReason, extendedAs, extendAll}
+use Rattle.u32_table.specs.Extending.{elementWords, sumWords, extendReason, extendedAs, extendAll}
 use Rattle.u32_table.proofs.ListSections.{words-length}
 use Rattle.honest.specs.FourCalls.{tableRowsTo, copyFlag1, copyFlag1Rows, firstRows, sumFrom, extendRefusals, AfterFill, paddedTable}
 use Rattle.honest.specs.FourCalls.{extendedAux, NoneRefuses, Honest}
@@ -37,7 +37,8 @@ use Rattle.honest.proofs.Steps.{end-terminal}
 use Rattle.honest.proofs.RowLists.{each-map, each-at, last-at, below-at, words-rows, words-reduced, row-of-words, rows-of-words}
 use Rattle.honest.proofs.Tables.{Chain, front, padded-chain, padded-first-rows}
 use Rattle.honest.proofs.Sums.{denominators-of-rows, sum-of-rows, next-sum-zero, first-sum-zero, sums-reduced}
-use Rattle.extension.proofs.Sums.{ok-inverse, sums-length, sums-at}
+use Rattle.air.proofs.ZeroDenominators.{ok-inverse}
+use Rattle.extension.proofs.Sums.{sums-length, sums-at}
 use Rattle.extension.proofs.Reasons.{extendable}
 use Rattle.words.proofs.Answers.{declined-not-done}
 use Rattle.honest.proofs.Calls.{Filled, fill-answer, fill-done, pad-done, shape-by-length}
@@ -203,7 +204,7 @@ after-fill l table height h =
     let f = fill-done l table height h in
     record { pad-done = pad-done f; extend-refuses = extend-refuses f; sum-is = sum-is f }
 
--- so none refuses where fill does not, aux and challenges are right, and each first row's denominator has an inverse
+-- so none refuses where fill does not, aux and challenges are right, and no first row's denominator is zero
 module _ (l : U32List) (table aux challenges : List ℕ) where
   pub none-refuses : fillReason l table ≡ Fine → extendRefusals l table aux challenges ≡ Fine
       → NoneRefuses l table aux challenges (listHeight l) (elementWords (sumFrom (challengesOf challenges) zeroX (firstRows l)))

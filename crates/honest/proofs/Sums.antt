@@ -12,20 +12,20 @@ use lib.ListN.{length, getD, length-append, List·getD-append}
 use lib.Seq.{getD-append-add}
 use borrow.Author.Tests.{lt-ltb, ltb-true, ltb-false, eq-eqb}
 use Rattle.field.specs.Elements.{p, subF}
-use Rattle.xfield.specs.Extension.{Ext, zeroX, liftX, addX, subX, mulX, scaleX, HasInverse, Reduced}
-use Rattle.xfield.proofs.Inverses.{invX, invertible, invertible-true}
+use Rattle.xfield.specs.Extension.{Ext, zeroX, liftX, addX, subX, mulX, scaleX, HasInverse, Reduced, isZeroX}
+use Rattle.xfield.proofs.Inverses.{invX}
 use Rattle.xfield.proofs.Laws.{zeroX-reduced, addX-reduced, addX-zero-left, subX-self, scaleX-is, scaleX-zero, mulX-zero-right}
 use Rattle.xfield.proofs.Laws.{liftX-word, sum-stepped, sum-started}
 use Rattle.air.specs.Columns.{Row, rowAt, auxAt, elementAt, allReduced}
 use Rattle.air.specs.Challenges.{Challenges, challengesOf, rowDenominator}
-use Rattle.air.specs.RunningSum.{Summand, addSummand, runningSum, summandAt}
+use Rattle.air.specs.RunningSum.{Summand, addSummand, runningSum, denominatorOk, denominatorsOk, summandAt}
 use Rattle.air.specs.Constraints as Poly
 use Rattle.air.specs.Constraints.{baseValue}
 use Rattle.air.proofs.Lists.{SumZero}
 use Rattle.air.proofs.RunningSums.{adds-nothing, adds-share}
-use Rattle.u32_table.specs.Extending.{denominatorOk, denominatorsOk, elementWords, sumWords}
+use Rattle.u32_table.specs.Extending.{elementWords, sumWords}
 use Rattle.extension.specs.Extensions.{summandOf}
-use Rattle.honest.specs.FourCalls.{tableRowsTo, copyFlag1, allInvertible, sumFrom}
+use Rattle.honest.specs.FourCalls.{tableRowsTo, copyFlag1, noneZero, sumFrom}
 use Rattle.honest.proofs.Products.{same-zero}
 use Rattle.honest.proofs.RowLists.{flagged-join}
 
@@ -121,15 +121,15 @@ module _ (table challenges : List ℕ) where
   abbrev challenge : Challenges
   challenge = challengesOf challenges
 
-  invertible-join : (xs ys : List Row) → allInvertible challenge (xs ++ ys) ≡ (allInvertible challenge xs && allInvertible challenge ys)
-  unfolding allInvertible
-  invertible-join [] ys = refl
-  invertible-join (a ∷ xs) ys =
-      ap (λ (t : Bool). invertible (rowDenominator challenge a) && t) (invertible-join xs ys)
-      ∙ regroup (invertible (rowDenominator challenge a))
+  none-zero-join : (xs ys : List Row) → noneZero challenge (xs ++ ys) ≡ (noneZero challenge xs && noneZero challenge ys)
+  unfolding noneZero
+  none-zero-join [] ys = refl
+  none-zero-join (a ∷ xs) ys =
+      ap (λ (t : Bool). not (isZeroX (rowDenominator challenge a)) && t) (none-zero-join xs ys)
+      ∙ regroup (not (isZeroX (rowDenominator challenge a)))
     where
       regroup : (t : Bool)
-          → (t && (allInvertible challenge xs && allInvertible challenge ys)) ≡ ((t && allInvertible challenge xs) && allInvertible challenge ys)
+          → (t && (noneZero challenge xs && noneZero challenge ys)) ≡ ((t && noneZero challenge xs) && noneZero challenge ys)
       regroup true = refl
       regroup false = refl
 
@@ -138,12 +138,12 @@ module _ (table challenges : List ℕ) where
   sum-join sum [] ys = refl
   sum-join sum (a ∷ xs) ys = sum-join _ xs ys
 
-  one-invertible : (row : Row) → denominatorOk (summandOf challenge row) ≡ allInvertible challenge (copyFlag1 (row ∷ []))
-  unfolding denominatorOk allInvertible copyFlag1
-  one-invertible row = go (eqb (row .copyFlag) 1)
+  one-not-zero : (row : Row) → denominatorOk (summandOf challenge row) ≡ noneZero challenge (copyFlag1 (row ∷ []))
+  unfolding denominatorOk noneZero copyFlag1
+  one-not-zero row = go (eqb (row .copyFlag) 1)
     where
-      go : (t : Bool) → (not t || invertible (rowDenominator challenge row)) ≡ allInvertible challenge (cond t (row ∷ []) [])
-      go true = same (invertible (rowDenominator challenge row))
+      go : (t : Bool) → (not t || not (isZeroX (rowDenominator challenge row))) ≡ noneZero challenge (cond t (row ∷ []) [])
+      go true = same (not (isZeroX (rowDenominator challenge row)))
         where
           same : (t : Bool) → t ≡ (t && true)
           same true = refl
@@ -161,13 +161,13 @@ module _ (table challenges : List ℕ) where
       go false = refl
 
   pub denominators-of-rows : (n : ℕ)
-      → denominatorsOk (summandAt table challenges) n ≡ allInvertible challenge (copyFlag1 (tableRowsTo table n))
-  unfolding denominatorsOk tableRowsTo summandAt allInvertible copyFlag1
+      → denominatorsOk (summandAt table challenges) n ≡ noneZero challenge (copyFlag1 (tableRowsTo table n))
+  unfolding denominatorsOk tableRowsTo summandAt noneZero copyFlag1
   denominators-of-rows zero = refl
   denominators-of-rows (suc n) =
-      ap₂ (λ (s t : Bool). s && t) (denominators-of-rows n) (one-invertible (rowAt table n))
-      ∙ sym (invertible-join (copyFlag1 (tableRowsTo table n)) (copyFlag1 (rowAt table n ∷ [])))
-      ∙ ap (allInvertible challenge) (sym (flagged-join (tableRowsTo table n) (rowAt table n ∷ [])))
+      ap₂ (λ (s t : Bool). s && t) (denominators-of-rows n) (one-not-zero (rowAt table n))
+      ∙ sym (none-zero-join (copyFlag1 (tableRowsTo table n)) (copyFlag1 (rowAt table n ∷ [])))
+      ∙ ap (noneZero challenge) (sym (flagged-join (tableRowsTo table n) (rowAt table n ∷ [])))
 
   pub sum-of-rows : (n : ℕ) → runningSum (summandAt table challenges) n ≡ sumFrom challenge zeroX (copyFlag1 (tableRowsTo table n))
   unfolding runningSum tableRowsTo summandAt sumFrom copyFlag1

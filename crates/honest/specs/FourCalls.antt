@@ -10,8 +10,8 @@ use Rattle.words.specs.Answers.{done}
 use Rattle.words.specs.Refusals.{declineIf, orElse}
 use Rattle.words.specs.declared.Judgement.{Judgement}
 use Rattle.words.specs.declared.Refusal.the-variants.{Shape, Unreduced, Flat}
-use Rattle.xfield.specs.Extension.{Ext, zeroX, addX, scaleX}
-use Rattle.xfield.proofs.Inverses.{invX, invertible}
+use Rattle.xfield.specs.Extension.{Ext, zeroX, addX, scaleX, isZeroX}
+use Rattle.xfield.proofs.Inverses.{invX}
 use Rattle.lists.specs.Lists.{U32List, entryAt, multiplicityAt}
 use Rattle.lists.specs.Heights.{sectionPlaces}
 use Rattle.air.specs.Columns.{Row, rowAt, rowCount, auxShape, allReduced}
@@ -47,10 +47,10 @@ abbrev pub firstRows : U32List → List Row
 firstRows l = firstRowsAt l (sectionPlaces l)
 
 -- ---- of rows, each with its multiplicity and its denominator
--- no denominator is without inverse
-unfoldable pub allInvertible : Challenges → List Row → Bool
-allInvertible c [] = true
-allInvertible c (r ∷ rs) = invertible (rowDenominator c r) && allInvertible c rs
+-- no denominator is zero
+unfoldable pub noneZero : Challenges → List Row → Bool
+noneZero c [] = true
+noneZero c (r ∷ rs) = not (isZeroX (rowDenominator c r)) && noneZero c rs
 
 -- the sum of multiplicity × inverse of the denominator, from a sum on
 unfoldable pub sumFrom : Challenges → Ext → List Row → Ext
@@ -79,12 +79,12 @@ pub record Honest (l : U32List) (table aux challenges : List ℕ) : Type 0 where
   pub zero : checkAll table aux challenges ≡ done []
 
 -- ---- what can still be refused once fill has answered a height: nothing of the table
--- "Extend 1, 8, 9": 1 for aux and challenges alone, 8 for the challenges alone, 9 where a first row's denominator is without inverse
+-- "Extend 1, 8, 9": 1 for aux and challenges alone, 8 for the challenges alone, 9 where a first row's denominator is zero
 unfoldable pub extendRefusals : U32List → List ℕ → List ℕ → List ℕ → Judgement
 extendRefusals l table aux challenges =
     orElse (declineIf (not (auxShape table aux && challengesShape challenges)) Shape)
     (orElse (declineIf (not (allReduced challenges)) Unreduced)
-    (declineIf (not (allInvertible (challengesOf challenges) (firstRows l))) Flat))
+    (declineIf (not (noneZero (challengesOf challenges) (firstRows l))) Flat))
 
 pub record AfterFill (l : U32List) (table : List ℕ) (height : ℕ) : Type 0 where
   pub pad-done : padAll (filledTable l table) height .answer ≡ done []

@@ -51,8 +51,7 @@ pub record IsRun (due : AfterRun) (answer : Answer) (table aux : List ℕ) : Typ
 abbrev pub RunsHonestly : U32List → Answer → (tableAfter : List ℕ) → Type 0
 RunsHonestly l answer tableAfter = answer .number ≡ 0 → (answer ≡ done []) × (copyFlag1Rows tableAfter ≡ firstRows l)
 
--- And a run refuses nothing where fill does not, there is a row, aux and challenges are right, and each first row's denominator has an
--- inverse.
+-- And a run refuses nothing where fill does not, there is a row, aux and challenges are right, and no first row's denominator is zero.
 abbrev pub RefusesNoMore : U32List → (table aux challenges : List ℕ) → Answer → Type 0
 RefusesNoMore l table aux challenges answer =
     fillReason l table ≡ Fine → 0 < rowCount table → extendRefusals l table aux challenges ≡ Fine → answer ≡ done []

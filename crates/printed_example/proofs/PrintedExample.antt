@@ -9,7 +9,7 @@ use lib.ListN.{drop, replicate}
 use Rattle.field.specs.Elements.{invF, addF, subF, mulF, negF}
 use Rattle.field.proofs.Powers.{invF-computed}
 use Rattle.xfield.specs.Extension.{Ext, ext, oneX, addX, subX, mulX, scaleX, HasInverse, equalX, isZeroX}
-use Rattle.xfield.proofs.Inverses.{invX, invX-only, invertible, invertible-yes}
+use Rattle.xfield.proofs.Inverses.{invX, invX-only}
 use Rattle.xfield.proofs.RingLawsX.{reduceX-reduced}
 use Rattle.words.specs.Answers.{done}
 use Rattle.words.specs.Refusals.{firstReason}
@@ -26,7 +26,7 @@ use Rattle.repeats.specs.Repeats.{occurs, repeats}
 use Rattle.stored.specs.Stored.{torn, admitStored, tally, contentReason, readReason, readAll}
 use Rattle.air.specs.Columns.{rowAt, elementAt, tableShape, auxShape, allReduced}
 use Rattle.air.specs.Challenges.{challengesOf, challengesShape, compressedRow, denominator}
-use Rattle.air.specs.RunningSum.{addSummand, runningSum, summandAt, lookupSum}
+use Rattle.air.specs.RunningSum.{addSummand, runningSum, denominatorOk, denominatorsOk, summandAt, lookupSum}
 use Rattle.air.specs.Constraints.{deselectFrom, instructionDeselector, oneMinusProduct, ciIsPow, lhsLsb, rhsLsb, equalBits, initialConstraints, consistencyConstraints, transitionConstraints, terminalConstraints}
 use Rattle.air.specs.Constraints.{«running_sum_log_derivative_starts_correctly»}
 use Rattle.air.specs.Constraints.{«copy_flag_is_bit»}
@@ -73,7 +73,7 @@ use Rattle.results.specs.Results.{isEnd, ending, carryAnd, carry}
 use Rattle.sections.specs.Sections.{bitsMinus33Inverse, sectionFrom, section, tableWords}
 use Rattle.u32_table.specs.Filling.{sectionsAt, fillReason, fillAll}
 use Rattle.u32_table.specs.Padding.{paddingRow, padReason, padAll}
-use Rattle.u32_table.specs.Extending.{denominatorOk, denominatorsOk, extendReason, sumWords, extendAll}
+use Rattle.u32_table.specs.Extending.{extendReason, sumWords, extendAll}
 use Rattle.text.specs.Lines.{digitsOf, decimal, lineRest, line, headLine, rowLine, sumLine, verdictLine}
 use Rattle.transcript.specs.Transcript.{challengeBytes, challengesIn, unusedPlaces, unlessRefused, rowLines, openingText, resultText}
 use Rattle.transcript.specs.Transcript.{checkedText, extendedText, paddedText, callsText, heightText, listText, readText, transcriptOf}
@@ -168,8 +168,8 @@ unfolding padAll padReason tableShape allReduced rowAt tableWords paddingRow
 pad-is = rw bits-0 refl
 
 extend-is : extendAll padded (replicate 12 0) challenges ≡ record { answer = done (2 ∷ 0 ∷ 0 ∷ []); aux = sums }
-unfolding extendAll extendReason tableShape auxShape challengesShape allReduced denominatorsOk denominatorOk summandAt rowAt challengesOf denominator compressedRow lookupSum runningSum addSummand sumWords addX subX scaleX mulX addF subF mulF elementAt
-extend-is = rw (invertible-yes oneX one-has-inverse, one-inverse) refl
+unfolding extendAll extendReason tableShape auxShape challengesShape allReduced denominatorsOk denominatorOk summandAt rowAt challengesOf denominator compressedRow lookupSum runningSum addSummand sumWords addX subX scaleX mulX addF subF mulF elementAt isZeroX equalX
+extend-is = rw one-inverse refl
 
 check-is : checkAll padded sums challenges ≡ done []
 unfolding checkAll judgeCheck firstNonzero firstIn firstInRows tableShape auxShape challengesShape allReduced rowAt elementAt challengesOf denominator compressedRow addX subX scaleX mulX isZeroX equalX addF subF mulF negF deselectFrom instructionDeselector oneMinusProduct ciIsPow lhsLsb rhsLsb equalBits «running_sum_log_derivative_starts_correctly» initialConstraints «copy_flag_is_bit» «copy_flag_is_0_or_bits_is_0» «bits_minus_33_inv_is_inverse_of_bits_minus_33» «lhs_inv_is_0_or_the_inverse_of_lhs» «lhs_is_0_or_lhs_inverse_is_the_inverse_of_lhs» «rhs_inv_is_0_or_the_inverse_of_rhs» «rhs_is_0_or_rhs_inverse_is_the_inverse_of_rhs» «result_is_initialized_correctly_for_lt_with_copy_flag_0» «result_is_initialized_correctly_for_lt_with_copy_flag_1» «result_is_initialized_correctly_for_and» «result_is_initialized_correctly_for_pow» «result_is_initialized_correctly_for_log_2_floor» «result_is_initialized_correctly_for_pop_count» «if_log_2_floor_on_0_then_vm_crashes» «if_copy_flag_is_0_then_lookup_multiplicity_is_0» consistencyConstraints «if_copy_flag_next_is_1_then_lhs_is_0_or_ci_is_pow» «if_copy_flag_next_is_1_then_rhs_is_0» «if_copy_flag_next_is_0_then_ci_stays» «if_copy_flag_next_is_0_and_lhs_next_is_nonzero_and_ci_not_pow_then_bits_increases_by_1» «if_copy_flag_next_is_0_and_rhs_next_is_nonzero_then_bits_increases_by_1» «if_copy_flag_next_is_0_and_ci_not_pow_then_lhs_lsb_is_a_bit» «if_copy_flag_next_is_0_then_rhs_lsb_is_a_bit» «if_copy_flag_next_is_0_and_ci_is_lt_and_result_next_is_0_then_result_is_0» «if_copy_flag_next_is_0_and_ci_is_lt_and_result_next_is_1_then_result_is_1» «if_copy_flag_next_is_0_and_ci_is_lt_and_result_next_is_2_and_lt_is_0_then_result_is_0» «if_copy_flag_next_is_0_and_ci_is_lt_and_result_next_is_2_and_lt_is_1_then_result_is_1» «if_copy_flag_next_is_0_and_ci_is_lt_and_result_still_not_known_then_result_is_2» «if_copy_flag_next_is_0_and_ci_is_lt_and_copy_flag_dictates_result_then_result_is_0» «if_copy_flag_next_is_0_and_ci_is_and_then_results_updates_correctly» «if_copy_flag_next_is_0_and_ci_is_log_2_floor_lhs_next_0_for_first_time_then_set_result» «if_copy_flag_next_is_0_and_ci_is_log_2_floor_and_lhs_next_not_0_then_copy_result» «if_copy_flag_next_is_0_and_ci_is_pow_then_lhs_remains_unchanged» «if_copy_flag_next_is_0_and_ci_is_pow_and_rhs_lsb_is_0_then_result_squares» «if_copy_flag_next_is_0_and_ci_is_pow_and_rhs_lsb_is_1_then_result_squares_and_mults» «if_copy_flag_next_is_0_and_ci_is_pop_count_then_result_increases_by_lhs_lsb» «if_copy_flag_next_is_0_then_running_sum_log_derivative_stays» «if_copy_flag_next_is_1_then_running_sum_log_derivative_accumulates_next_row» transitionConstraints «lhs_is_0_or_ci_is_pow» «rhs_is_0» terminalConstraints

@@ -1,27 +1,16 @@
 -- Extension (document 01, under that heading): the aux words after `extend`.
 use Prim.Native.Nat.{ℕ, zero, suc}
-use mathlib.Core.Bool.{Bool, true, not, _&&_, _||_}
+use mathlib.Core.Bool.{not, _&&_}
 use mathlib.Core.List.{List, [], _∷_, _++_}
-use lib.Dec.{eqb}
 use Rattle.words.specs.Answers.{Answer, done, declined}
 use Rattle.words.specs.Refusals.{declineIf, orElse}
 use Rattle.words.specs.declared.Judgement.{Judgement}
 use Rattle.words.specs.declared.Judgement.the-variants.{Fine, Declined}
 use Rattle.words.specs.declared.Refusal.the-variants.{Shape, Unreduced, Flat}
 use Rattle.xfield.specs.Extension.{Ext}
-use Rattle.xfield.proofs.Inverses.{invertible}
 use Rattle.air.specs.Columns.{rowCount, tableShape, auxShape, allReduced}
 use Rattle.air.specs.Challenges.{challengesShape}
-use Rattle.air.specs.RunningSum.{Summand, runningSum, summandAt, lookupSum}
-
--- not "a CopyFlag 1 denominator without inverse": `invertible` tells whether some element times it is (1, 0, 0)
-unfoldable pub denominatorOk : Summand → Bool
-denominatorOk s = not (eqb (s .flag) 1) || invertible (s .denominator)
-
--- the first n of them
-unfoldable pub denominatorsOk : (ℕ → Summand) → ℕ → Bool
-denominatorsOk summands zero = true
-denominatorsOk summands (suc n) = denominatorsOk summands n && denominatorOk (summands n)
+use Rattle.air.specs.RunningSum.{Summand, runningSum, denominatorsOk, summandAt, lookupSum}
 
 -- "Extend 1, 8, 9": 8 is about the table and the challenges; old aux words are not examined
 unfoldable pub extendReason : List ℕ → List ℕ → List ℕ → Judgement

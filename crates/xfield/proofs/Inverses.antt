@@ -5,11 +5,9 @@
 use Prim.Native.Nat.{ℕ, _%_}
 use mathlib.Core.Path.{_≡_, refl, sym, _∙_, ap, ap₂, subst}
 use mathlib.Core.Logic.{_≢_, _↔_}
-use mathlib.Core.Bool.{Bool, true, false, true≢false}
 use mathlib.Core.List.{[], _∷_}
 use native.Mathlib.Decide.{ℕ-discrete}
 use native.Mathlib.Omega.{arith}
-use lib.Dec.{T}
 use Rattle.field.specs.Elements.{p, addF, subF, mulF, invF, InverseOrZero}
 use Rattle.field.proofs.Ring.{Expr, var, con, neg, _:+_, _:*_, _:-_, solve, combine}
 use Rattle.field.proofs.Powers.{powBits, invF-computed}
@@ -32,14 +30,14 @@ adjugateX x =
 unfoldable pub normX : Ext → ℕ
 normX x = mulX x (adjugateX x) .a
 
-abbrev adjugateE : ExprX → ExprX
+abbrev pub adjugateE : ExprX → ExprX
 adjugateE x =
     exprX
     ((x .a :+ x .c) :* (x .a :+ x .c) :- x .b :* (x .b :- x .c))
     (x .c :* (x .b :- x .c) :- x .b :* (x .a :+ x .c))
     (x .b :* x .b :- x .c :* (x .a :+ x .c))
 
-abbrev normE : ExprX → Expr
+abbrev pub normE : ExprX → Expr
 normE x = (x *X adjugateE x) .a
 
 pub adjugateX-mulX : (x : Ext) → mulX (adjugateX x) x ≡ ext (normX x) 0 0
@@ -94,39 +92,6 @@ pub hasInverse-iff : (x : Ext) → HasInverse x ↔ (normX x ≢ 0)
 unfolding HasInverse
 hasInverse-iff x =
     (normX-not-zero x, λ f. (scaleX (invBits (normX x)) (adjugateX x), adjugateX-unit x (invBits (normX x)) (invBits-is (normX x)) f))
-
--- the same as a test
-unfoldable pub invertible : Ext → Bool
-invertible x = elim (hasInverse? x) [ yes h ↦ true | no f ↦ false ]
-
-pub invertible-iff : (x : Ext) → T (invertible x) ↔ HasInverse x
-unfolding invertible
-invertible-iff x = go (hasInverse? x)
-  where
-    go : (d : Dec (HasInverse x)) → T (elim d [ yes h ↦ true | no f ↦ false ]) ↔ HasInverse x
-    go (yes h) = (λ t. h, λ g. tt)
-    go (no f) = (λ t. absurd t, λ g. f g)
-
--- and its answers
-pub invertible-yes : (x : Ext) → HasInverse x → invertible x ≡ true
-invertible-yes x h = go (invertible x) (invertible-iff x .1 h)
-  where
-    go : (b : Bool) → T b → b ≡ true
-    go true t = refl
-    go false t = absurd t
-
-pub invertible-true : (x : Ext) → invertible x ≡ true → HasInverse x
-invertible-true x e = invertible-iff x .0 (subst T (sym e) tt)
-
-pub invertible-no : (x : Ext) → (HasInverse x → ⊥) → invertible x ≡ false
-invertible-no x f = go (invertible x) refl
-  where
-    go : (b : Bool) → invertible x ≡ b → b ≡ false
-    go true e = absurd (f (invertible-true x e))
-    go false e = refl
-
-pub invertible-false : (x : Ext) → invertible x ≡ false → HasInverse x → ⊥
-invertible-false x e h = true≢false (sym (invertible-yes x h) ∙ e)
 
 -- ---- the inverse is unique
 pub inverse-unique : (x y z : Ext) → mulX y x ≡ oneX → mulX z x ≡ oneX → reduceX y ≡ reduceX z
@@ -211,13 +176,6 @@ invX-of-red x =
       product = λ h. sym (mulX-of-red (invX (reduceX x)) x) ∙ invX-mulX (reduceX x) (hasInverse-red x .1 h);
       none = λ f. invX-none (reduceX x) (λ h. f (hasInverse-red x .0 h));
     })
-
-pub invertible-of-red : (x : Ext) → invertible (reduceX x) ≡ invertible x
-invertible-of-red x = go (hasInverse? x)
-  where
-    go : Dec (HasInverse x) → invertible (reduceX x) ≡ invertible x
-    go (yes h) = invertible-yes (reduceX x) (hasInverse-red x .1 h) ∙ sym (invertible-yes x h)
-    go (no f) = invertible-no (reduceX x) (λ h. f (hasInverse-red x .0 h)) ∙ sym (invertible-no x f)
 
 -- ---- products, and base elements
 pub hasInverse-one : HasInverse oneX

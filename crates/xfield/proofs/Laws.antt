@@ -32,14 +32,15 @@ pub use Rattle.xfield.proofs.RingLawsX.{subX-self, subX-zero, subX-addX
 -- scaleX k (liftX v) ≡ liftX (mulF k v)
 pub use Rattle.xfield.proofs.RingLawsX.{liftX-addF, liftX-subF, liftX-mulF, liftX-mod}
 pub use Rattle.xfield.proofs.RingLawsX.{scaleX-is, scaleX-zero, scaleX-one, scaleX-mulX, scaleX-liftX}
--- ---- inverses: hasInverse? decides HasInverse x, and T (invertible x) ↔ HasInverse x; InverseOrZeroX x (invX x), and no other
--- element is so (invX-only); Reduced (invX x); HasInverse x → mulX (invX x) x ≡ oneX; (HasInverse x → ⊥) → invX x ≡ zeroX;
--- HasInverse x → invX x ≢ zeroX; Reduced r → mulX r x ≡ oneX → r ≡ invX x; invX (reduceX x) ≡ invX x;
--- HasInverse (reduceX x) ↔ HasInverse x; invertible (reduceX x) ≡ invertible x
+-- ---- inverses: hasInverse? decides HasInverse x; InverseOrZeroX x (invX x), and no other element is so (invX-only);
+-- Reduced (invX x); HasInverse x → mulX (invX x) x ≡ oneX; (HasInverse x → ⊥) → invX x ≡ zeroX; HasInverse x → invX x ≢ zeroX;
+-- Reduced r → mulX r x ≡ oneX → r ≡ invX x; invX (reduceX x) ≡ invX x; HasInverse (reduceX x) ↔ HasInverse x
 pub use Rattle.xfield.proofs.Inverses.{hasInverse?, inverse-unique}
-pub use Rattle.xfield.proofs.Inverses.{invertible, invertible-iff, invertible-yes, invertible-true, invertible-no, invertible-false, invertible-of-red}
 pub use Rattle.xfield.proofs.Inverses.{invX, invX-is, invX-only, invX-reduced, invX-mulX, invX-none, invX-not-zero, invX-by-product, invX-of-red}
--- what has an inverse: oneX and base elements that are not 0; a product exactly where both factors have; not zeroX
+-- what has an inverse: every element but zero, and no other. cubicAt r ≢ 0, and therefore: reduceX x ≢ zeroX → HasInverse x;
+-- HasInverse x → reduceX x ≢ zeroX; the same of x itself where its words are below p
+pub use Rattle.xfield.proofs.Roots.{no-root, nonzero-has-inverse, has-inverse-not-zero, only-zero-has-none, has-inverse-exactly}
+-- so have oneX and base elements that are not 0; a product exactly where both factors have; not zeroX
 pub use Rattle.xfield.proofs.Inverses.{hasInverse-red, hasInverse-one, hasInverse-liftX, hasInverse-mulX, hasInverse-factor, hasInverse-zero}
 
 -- ---- on words below p
@@ -187,17 +188,6 @@ isZeroX-no x f = equalX-no x zeroX f
 pub isZeroX-iff : (x : Ext) → T (isZeroX x) ↔ (reduceX x ≡ zeroX)
 unfolding isZeroX
 isZeroX-iff x = equalX-iff x zeroX
-
--- an answer of inverse-or-zero is zero exactly where there is no inverse
-pub isZeroX-invX : (x : Ext) → isZeroX (invX x) ≡ not (invertible x)
-isZeroX-invX x = go (hasInverse? x)
-  where
-    go : Dec (HasInverse x) → isZeroX (invX x) ≡ not (invertible x)
-    go (yes h) =
-        isZeroX-no (invX x) (λ e. invX-not-zero x h (sym (reduced-same (invX x) (invX-reduced x)) ∙ e))
-        ∙ ap not (sym (invertible-yes x h))
-    go (no f) =
-        isZeroX-yes (invX x) (reduced-same (invX x) (invX-reduced x) ∙ invX-none x f) ∙ ap not (sym (invertible-no x f))
 
 -- a base value is zero as an element where it is zero
 pub isZeroX-liftX : (v : ℕ) → isZeroX (liftX v) ≡ isZeroF v

@@ -1,3 +1,4 @@
 pub mod RingLawsX
 pub mod Inverses
 pub mod Laws
+pub mod Roots

@@ -58,6 +58,10 @@ scaleX k x = ext (mulF k (x .a)) (mulF k (x .b)) (mulF k (x .c))
 unfoldable pub HasInverse : Ext → Type 0
 HasInverse x = (y : Ext) × (mulX y x ≡ oneX)
 
+-- X^3 − X + 1, of which X is a root in the extension, at a number modulo p
+unfoldable pub cubicAt : ℕ → ℕ
+cubicAt r = addF (subF (mulF r (mulF r r)) r) 1
+
 -- the words of x are below p
 pub record Reduced (x : Ext) : Type 0 where
   pub a-below : x .a < p

@@ -2,10 +2,8 @@
 // content and answers words below p; each contract is one equation, to the operation's definition in specs/Extension.antt, but
 // for the inverse, whose contract is its meaning.
 ghost use mathlib.Core.Path.{_≡_};
-ghost use mathlib.Core.Logic.{_↔_};
-ghost use lib.Dec.{T};
 ghost use Rattle.field.specs.Elements.{addF, subF, mulF};
-ghost use Rattle.xfield.specs.Extension.{ext, liftX, reduceX, addX, subX, mulX, scaleX, HasInverse, InverseOrZeroX, equalX, isZeroX};
+ghost use Rattle.xfield.specs.Extension.{ext, liftX, reduceX, addX, subX, mulX, scaleX, InverseOrZeroX, equalX, isZeroX};
 ghost use Rattle.xfield.specs.XFieldElements.{extOf};
 use field::BFieldElement;
 
@@ -112,13 +110,6 @@ impl XFieldElement {
         self.0
             .mul(other.0)
             .sub(self.1.mul(other.2).add(self.2.mul(other.1)))
-    }
-
-    // Whether there is an inverse: the norm is not 0.
-    pub fn is_invertible(self) -> bool
-        ensures { λ r. ⌜ (T r ↔ HasInverse (extOf self)) ⌝ }
-    {
-        !self.first_of_product(self.adjugate()).is_zero()
     }
 
     // The adjugate divided by the norm: one inverse of a base element.

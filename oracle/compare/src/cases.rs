@@ -38,7 +38,7 @@ mod listed {
     pub const WORDS: &str = "words of p or more";
     pub const BELOW: &str = "a table below the height";
     pub const FILLED: &str = "a filled count above the rows";
-    pub const FLAT: &str = "a denominator without inverse";
+    pub const FLAT: &str = "a denominator of (0, 0, 0)";
 
     const PAGE: &str = include_str!("../../../docs/DIFFERENCES.md");
 
@@ -113,6 +113,17 @@ pub struct Comparison {
 /// What stands in a place before a call.
 fn old_words(n: usize) -> Vec<u64> {
     (0..n as u64).map(|i| (i + 1).wrapping_mul(0x9e37_79b9_7f4a_7c15) | 1).collect()
+}
+
+/// Whether some CopyFlag 1 row's denominator is (0, 0, 0).
+fn has_zero_denominator(rows: &[Row], challenges: &Challenges) -> bool {
+    let [indeterminate, lhs, rhs, ci, result] =
+        [0, 3, 6, 9, 12].map(|i| XFieldElement::new([i, i + 1, i + 2].map(|word| BFieldElement::new(challenges[word]))));
+    let is_zero = |row: &Row| {
+        let weighted = |weight, column: usize| weight * BFieldElement::new(row[column]);
+        indeterminate == weighted(lhs, 4) + weighted(rhs, 6) + weighted(ci, 3) + weighted(result, 8)
+    };
+    rows.iter().any(|row| row[0] == 1 && is_zero(row))
 }
 
 fn flat<const N: usize>(rows: &[[u64; N]]) -> Vec<u64> {
@@ -543,12 +554,19 @@ impl Comparison {
         self.same("pad: padding rows", &table[10 * filled..], &expected.as_flattened()[10 * filled..])
     }
 
-    /// The sums by both; none where a denominator has no inverse.
+    /// The sums by both; none where a denominator is (0, 0, 0), and nowhere else.
     fn extended(&mut self, rows: &[Row], challenges: &Challenges) -> Result<Option<Vec<Ext>>, String> {
         let old = old_words(3 * rows.len());
         let mut aux = old.clone();
         let answer = port::extend(rows.as_flattened(), &mut aux, challenges);
-        match caught(|| extend(rows, challenges)) {
+        let original = caught(|| extend(rows, challenges));
+        agree(
+            "extend: a denominator of (0, 0, 0)",
+            answer,
+            original.is_err(),
+            original.is_err() == has_zero_denominator(rows, challenges),
+        )?;
+        match original {
             Ok(sums) => {
                 let last = sums.last().copied().unwrap_or([0; 3]);
                 agree("extend", answer, last, answer == Ok(last))?;

@@ -1,22 +1,15 @@
 -- `extension::denominator_ok` meets its contract: the two cases of the definition. Assumes nothing.
 use mathlib.Core.Path.{_≡_, refl, sym, ap, _∙_}
-use mathlib.Core.Logic.{_↔_}
-use mathlib.Core.Bool.{Bool, true, false}
-use lib.Dec.{T}
+use mathlib.Core.Bool.{not}
 use borrow.Author.Tests.{eq-eqb, ne-eqb}
-use Rattle.xfield.specs.Extension.{Ext, HasInverse}
-use Rattle.xfield.proofs.Inverses.{invertible, invertible-yes, invertible-no}
+use Rattle.xfield.specs.Extension.{isZeroX}
 use Rattle.air.specs.Columns.{rowAt}
 use Rattle.air.specs.Challenges.{rowDenominator}
 use Rattle.layout.specs.Layouts.{challengesIn}
-use Rattle.u32_table.specs.Extending.{denominatorOk}
+use Rattle.air.specs.RunningSum.{denominatorOk}
 use borrow.Author.Needs.{needs}
 use Rattle.extension.proofs.denominator_ok.Statement.{statement}
 use Rattle.extension.proofs.denominator_ok.Tie as tie
-
-as-invertible : (x : Ext) (b : Bool) → T b ↔ HasInverse x → b ≡ invertible x
-as-invertible x true h = sym (invertible-yes x (h .0 tt))
-as-invertible x false h = sym (invertible-no x (h .1))
 
 mul-if1 : tie.Need-mul-if1
 mul-if1 c = search needs
@@ -37,8 +30,8 @@ at-requires c κs = search needs
 denominator-of-requires : tie.Need-denominator-of-requires
 denominator-of-requires c κs = search needs
 
-is-invertible-requires : tie.Need-is-invertible-requires
-is-invertible-requires c κs = search needs
+is-zero-requires : tie.Need-is-zero-requires
+is-zero-requires c κs = search needs
 
 returns-2 : tie.Need-returns-2
 unfolding denominatorOk rowAt
@@ -46,8 +39,8 @@ returns-2 c =
     let args = c .before .before .before .before .before .before .args in
     let at = c .before .before .at in
     rw (eq-eqb _ 1 (c .before .before .before .if1 .left))
-    (as-invertible _ _ (c .is-invertible .ensures) ∙ ap invertible (c .before .denominator-of .ensures)
-    ∙ ap (λ row. invertible (rowDenominator (challengesIn (args .challenges)) row)) (at .ensures))
+    (ap not (c .is-zero .ensures ∙ ap isZeroX (c .before .denominator-of .ensures)
+    ∙ ap (λ row. isZeroX (rowDenominator (challengesIn (args .challenges)) row)) (at .ensures)))
 
 pub denominator-ok-spec : {M : Type 1} → statement M
 denominator-ok-spec =
@@ -58,6 +51,6 @@ denominator-ok-spec =
     shared-slice-read-if1
     at-requires
     denominator-of-requires
-    is-invertible-requires
+    is-zero-requires
     returns
     returns-2)

@@ -7,9 +7,9 @@ use native.Mathlib.Omega.{arith}
 use borrow.Author.Needs.{needs}
 use borrow.Author.Tests.{not-true, not-false}
 use Rattle.air.specs.Columns.{rowCount}
-use Rattle.air.specs.RunningSum.{summandAt}
-use Rattle.u32_table.specs.Extending.{denominatorOk, denominatorsOk}
-use Rattle.extension.proofs.Sums.{row-summand, denominators-more, denominators-not-ok}
+use Rattle.air.specs.RunningSum.{denominatorOk, denominatorsOk, summandAt}
+use Rattle.air.proofs.ZeroDenominators.{denominators-more, denominators-not-ok}
+use Rattle.extension.proofs.Sums.{row-summand}
 use Rattle.extension.proofs.denominators_ok.Statement.{statement}
 use Rattle.extension.proofs.denominators_ok.Tie as tie
 
