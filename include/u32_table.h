@@ -118,7 +118,8 @@ uint64_t u32_table_compare(uint64_t opcode, uint64_t left_operand, uint64_t righ
                            uint64_t other_left_operand, uint64_t other_right_operand, uint64_t *answers, size_t answer_words);
 
 /* The rows that a list needs.
- * Answers: its height, the sum of its entries' heights; its padded height, the smallest power of two that is at least the height, 1 for 0.
+ * Answers: its height, the sum of its entries' heights; its padded height, the smallest power of two that is at least the height and at least
+ * 256: all tables of one proof share it, and the byte lookup always has 256 rows. No entries: 0 and 256.
  * Refusals, in this order: SHAPE; then entry by entry STRANGER, WIDE, BARE_LOG, COUNT_FULL. */
 uint64_t u32_table_plan(size_t capacity, size_t used, const uint64_t *keys, size_t key_words, const uint64_t *multiplicities,
                         size_t places, uint64_t *answers, size_t answer_words);

@@ -4,8 +4,8 @@
     tools/recorded_lists.py ORACLE > tests/vectors/recorded-lists.jsonl
 
 ORACLE is the built program of oracle/ (oracle/README.md). Each line is a call in the form of the stored vectors. Heights are those of one
-entry at every opcode's edges and of lists; a padded height is the smallest power of two that is not less, which the original does not
-answer for one table. Recordings go onto lists with unused places, which hold other words and keep them; the position is where the key
+entry at every opcode's edges and of lists; a padded height is the smallest power of two that is not less than it and 256, as the original
+answers for a trace that has these entries alone (oracle/tests/suite/differences.rs). Recordings go onto lists with unused places, which hold other words and keep them; the position is where the key
 stands in the original's list afterwards.
 """
 import itertools
@@ -39,7 +39,7 @@ def old_words(n):
 
 
 def padded(height):
-    return 1 << max(height - 1, 0).bit_length()
+    return max(256, 1 << max(height - 1, 0).bit_length())
 
 
 def a_list(entries, capacity):

@@ -68,11 +68,12 @@ def section(key, count):
     return rows
 
 
-def padded_table(entries):
+def padded_table(entries, least=256):
+    """The height and the rows up to the padded height, which is no less than the byte lookup's 256 rows; the calls take any number of rows."""
     rows = [r for key, count in entries.items() for r in section(key, count)]
     last = rows[-1] if rows else [0, 0, 0, SPLIT, 0, 0, 0, 0, 0, 0]
     padding = [0, 0, inverse(P - 33), last[3], last[4], last[5], 0, 0, 2 if last[3] == LT else last[8], 0]
-    size = 1
+    size = least
     while size < len(rows):
         size *= 2
     return len(rows), rows + [padding] * (size - len(rows))
@@ -176,7 +177,7 @@ def samples():
 def tables():
     """The challenges, the number of rows and the rows, for vectors_verdict."""
     challenges = drawn(3)
-    _, table = padded_table({(AND, 3, 1): 2, (LT, 5, 9): 3, (POP, 7, 0): 1})
+    _, table = padded_table({(AND, 3, 1): 2, (LT, 5, 9): 3, (POP, 7, 0): 1}, least=1)
     yield "honest", challenges, table
     first = next(r for r in table if r[:1] == [1] and r[3] == LT)
     first[8] = 1 - first[8]

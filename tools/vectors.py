@@ -2,12 +2,13 @@
 """Turns stored vectors into the number files that the vectors_* programs run.
 
     tools/vectors.py CALLS.jsonl field > crates/vectors_field/stdin
-    tools/vectors.py CALLS.jsonl lists tests/vectors/recorded-lists.jsonl > crates/vectors_lists/stdin
+    tools/vectors.py CALLS.jsonl lists tests/vectors/request-04.jsonl tests/vectors/recorded-lists.jsonl > crates/vectors_lists/stdin
     tools/vectors.py CALLS.jsonl tables tests/vectors/filled-tables.jsonl > crates/vectors_table/stdin
     tools/vectors.py CALLS.jsonl checks tests/vectors/named-tables.jsonl > crates/vectors_check/stdin
 
-CALLS.jsonl has single calls of document 01 with their answer and every array after the call, one JSON object a line. A second file of the
-same form is read after it: those in tests/vectors have the original Rust's answers (tools/filled_tables.py, tools/named_tables.py and
+CALLS.jsonl has single calls of document 01 with their answer and every array after the call, one JSON object a line. Further files of the
+same form are read after it: request-NN.jsonl has calls as change request NN has them, and the calls of CALLS.jsonl that the request answers
+otherwise are left out; the others in tests/vectors have the original Rust's answers (tools/filled_tables.py, tools/named_tables.py and
 tools/recorded_lists.py make them). What the vectors leave out, and edges, are added here; their answers are computed by the few lines of
 arithmetic below, which share nothing with the library. A number file is decimal numbers; the first of each line is the kind of the line.
 """
@@ -209,14 +210,15 @@ def list_edges():
     refused_recording(5, 2, 2, keys, [7, 2**32 - 1], [14, 3, 4])
     refused_recording(5, 2, 2, keys, [7, 2**64 - 1], [14, 3, 4])
     recorded(1, 2, 1, keys, mults, [14, 3, 4], keys, [7, 1], 2)
-    # document 01's heights, and padded heights around powers of two
+    # document 01's heights, whose padded height is the least; then padded heights around powers of two: sections of 33 rows and a shorter one
     for entry, height in [([14, 0, 0], 1), ([14, 1, 0], 2), ([6, 2**32 - 1, 0], 33), ([30, P - 1, 0], 1), ([30, 5, 7], 4)]:
-        padded = 1
-        while padded < height:
-            padded *= 2
-        planned(1, 1, entry, [0], [0, height, padded])
-    planned(0, 0, [], [], [0, 0, 1])
-    planned(1, 1, [6, 1, 2], [2**32 - 1], [0, 3, 4])
+        planned(1, 1, entry, [0], [0, height, 256])
+    planned(0, 0, [], [], [0, 0, 256])
+    planned(1, 1, [6, 1, 2], [2**32 - 1], [0, 3, 256])
+    for height, padded in [(255, 256), (256, 256), (257, 512), (512, 512), (513, 1024)]:
+        keys = [w for i in range(height // 33) for w in (6, 2**32 - 1 - i, 0)] + [14, 2 ** (height % 33 - 2), 0]
+        n = len(keys) // 3
+        planned(n, n, keys, [1] * n, [0, height, padded])
     planned(1, 1, [6, 1, 2], [2**32], [5, 0, 0])
     # write 4
     line(5, [1, 1], array([12, 0, 5]), array([1]), array([9] * 29), [4, 0], [9] * 29)
@@ -275,14 +277,20 @@ def tables(calls):
         table_line(call)
 
 
+def changed(call):
+    """Whether a change request answers a call of document 01 otherwise. Request 4: a padded height is at least 256."""
+    return call["call"] == "plan" and call["answer"][0] == "ok" and int(call["answer"][1][1]) < 256
+
+
 WHICH = {"field": field, "lists": lists, "checks": checks, "tables": tables}
 
 
 def main():
     if len(sys.argv) < 3 or sys.argv[2] not in WHICH:
         sys.exit(__doc__)
-    calls = []
-    for name in [sys.argv[1]] + sys.argv[3:]:
+    with open(sys.argv[1]) as f:
+        calls = [c for c in map(json.loads, f) if not changed(c)]
+    for name in sys.argv[3:]:
         with open(name) as f:
             calls += [json.loads(l) for l in f]
     WHICH[sys.argv[2]](calls)

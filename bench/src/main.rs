@@ -265,7 +265,8 @@ impl Inputs {
         let mut fresh = list.clone();
         let [write] = best(runs, [&mut || assert_eq!(8 + 21 * n, port::write(&list, &mut bytes))]);
         let [read] = best(runs, [&mut || assert_eq!(n, port::read(&bytes, &mut fresh))]);
-        println!("write | {:.3} | |\nread | {:.3} | |", write * 1e3, read * 1e3);
+        let [plan] = best(runs, [&mut || assert_eq!([height, rows], port::plan(&list))]);
+        println!("write | {:.3} | |\nread | {:.3} | |\nplan | {:.4} | |", write * 1e3, read * 1e3, plan * 1e3);
 
         let [ours, theirs] = best(
             runs,

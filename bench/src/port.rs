@@ -26,6 +26,8 @@ mod c {
             a: *mut u64,
             w: usize,
         ) -> u64;
+        pub fn u32_table_plan(c: usize, u: usize, k: *const u64, n: usize, m: *const u64, p: usize, a: *mut u64, w: usize)
+        -> u64;
         pub fn u32_table_write(
             c: usize,
             u: usize,
@@ -112,6 +114,16 @@ pub fn record(list: &mut List, used: usize, key: [u64; 3]) -> usize {
         )
     });
     answers[1] as usize
+}
+
+/// Height and padded height.
+pub fn plan(list: &List) -> [usize; 2] {
+    let (mut answers, capacity) = ([0; 2], list.capacity());
+    let (keys, multiplicities) = (list.keys.as_ptr(), list.multiplicities.as_ptr());
+    done(unsafe {
+        c::u32_table_plan(capacity, capacity, keys, list.keys.len(), multiplicities, capacity, answers.as_mut_ptr(), 2)
+    });
+    answers.map(|word| word as usize)
 }
 
 pub fn read(bytes: &[u8], list: &mut List) -> usize {

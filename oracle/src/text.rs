@@ -28,7 +28,7 @@ pub fn read_input(bytes: &[u8]) -> Option<(Challenges, Vec<Entry>)> {
 pub fn session(list: &[Entry], challenges: &Challenges) -> String {
     let mut rows = filled(list);
     let height = rows.len();
-    let padded = height.next_power_of_two();
+    let padded = height.next_power_of_two().max(256);
     rows.resize(padded, [0; 10]);
     pad(&mut rows, height);
     let aux = extend(&rows, challenges);

@@ -113,8 +113,8 @@ static void lists(void) {
     REFUSED(u32_table_compare(4, 2, 0, 4, 1, 0, answers, 0), U32_TABLE_SHAPE);
 
     /* the plan: and 3, 1 takes 3 rows, lt 2, 3 takes 3, pow to the 5 takes 4, pop_count of 2^32 - 1 takes 33 */
-    DONE(plan(4), 2, 43, 64);
-    DONE(plan(0), 2, 0, 1);
+    DONE(plan(4), 2, 43, 256);
+    DONE(plan(0), 2, 0, 256);
     REFUSED(plan(5), U32_TABLE_SHAPE);
     REFUSED(u32_table_plan(PLACES, 4, keys, 3 * PLACES, multiplicities, PLACES, answers, 1), U32_TABLE_SHAPE);
     keys[3] = 7;

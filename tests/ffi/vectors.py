@@ -2,10 +2,12 @@
 """Runs call vectors through the C functions: tests/ffi/vectors.py LIBRARY.so FILE.jsonl ..
 
 Each vector is made twice: with `answers` two words longer than stated, of which the last two must stay as they were, and with one word
-too few, which must give 1 and change nothing. The number, the answers and every array are compared. Prints how many vectors of each call had
-each number, and ends with status 1 where anything differs.
+too few, which must give 1 and change nothing. The number, the answers and every array are compared. Of each file and call the first vector that is
+done and the first that is refused are then made wrong in each number that is due, one at a time, and each of these must be told apart. Prints how many
+vectors of each call had each number, and ends with status 1 where anything differs, or a wrong vector does not.
 """
 import collections
+import copy
 import ctypes
 import json
 import sys
@@ -72,32 +74,61 @@ def wanted(vector):
     return 0, numbers(value)
 
 
+def differs(library, vector):
+    """The number that is due, and what differs: None where nothing does."""
+    call = vector["call"]
+    before = {name: content(name, vector["in"][name]) for name in vector["in"] if f"[{name}]" in ARGUMENTS[call]}
+    after = {**before, **{name: content(name, value) for name, value in vector.get("after", {}).items() if name in before}}
+    number, answers = wanted(vector)
+    got = make(library, vector, STATED[call] + 2)
+    due = number, answers + [MARK] * (STATED[call] + 2 - len(answers)), after
+    if STATED[call]:
+        short = STATED[call] - 1
+        got, due = (got, make(library, vector, short)), (due, (1, [MARK] * short, before))
+    return number, None if got == due else f"{got[:2]}, wanted {due[:2]}"
+
+
+def wrong_ones(vector):
+    """The vector with one number of its answer wrong, or one word of an array afterwards."""
+    kind, value = vector["answer"]
+    words = value if isinstance(value, list) else [value]
+    for i, word in enumerate(words):
+        if isinstance(word, str) and word.isdigit():
+            wrong = copy.deepcopy(vector)
+            other = str(int(word) ^ 1)
+            wrong["answer"] = [kind, other if value is word else words[:i] + [other] + words[i + 1:]]
+            yield wrong
+    for name in vector.get("after", {}):
+        old = content(name, vector["after"][name]) if f"[{name}]" in ARGUMENTS[vector["call"]] else []
+        for place in {0, len(old) // 2, len(old) - 1} if old else ():
+            wrong = copy.deepcopy(vector)
+            new = old[:place] + [old[place] ^ 1] + old[place + 1:]
+            wrong["after"][name] = bytes(new).hex() if name in ("bytes", "out") else [str(w) for w in new]
+            yield wrong
+
+
 def main():
     library = ctypes.CDLL(sys.argv[1])
-    counts, differ = collections.Counter(), 0
+    counts, differ, told, missed, shown = collections.Counter(), 0, 0, 0, set()
     for path in sys.argv[2:]:
         for line in open(path):
             vector = json.loads(line)
             call = vector["call"]
-            if call not in STATED or vector.get("slips"):
+            if call not in STATED:
                 continue
-            before = {name: content(name, vector["in"][name]) for name in vector["in"]
-                      if f"[{name}]" in ARGUMENTS[call]}
-            after = {**before, **{name: content(name, value) for name, value in vector.get("after", {}).items() if name in before}}
-            number, answers = wanted(vector)
-            got = make(library, vector, STATED[call] + 2)
-            due = number, answers + [MARK] * (STATED[call] + 2 - len(answers)), after
-            if STATED[call]:
-                short = STATED[call] - 1
-                got, due = (got, make(library, vector, short)), (due, (1, [MARK] * short, before))
-            if got != due:
+            number, difference = differs(library, vector)
+            if difference:
                 differ += 1
-                print(f"{path}: {call} differs: {got[:2]}, wanted {due[:2]}")
+                print(f"{path}: {call} differs: {difference}")
             counts[call, number] += 1
+            if (path, call, number == 0) not in shown:
+                shown.add((path, call, number == 0))
+                found = [differs(library, wrong)[1] is not None for wrong in wrong_ones(vector)]
+                told, missed = told + sum(found), missed + found.count(False)
     for call in STATED:
         print(call, " ".join(f"{number}: {n}" for (c, number), n in sorted(counts.items()) if c == call))
-    print(f"{sum(counts.values())} vectors, {differ} differ")
-    sys.exit(differ != 0 or not counts)
+    print(f"{sum(counts.values())} vectors, {differ} differ; {told} wrong vectors told apart, {missed} not")
+    sys.exit(differ != 0 or missed != 0 or not told)
 
 
 main()

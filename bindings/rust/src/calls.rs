@@ -61,7 +61,8 @@ impl Sizes {
 pub struct Plan {
     /// The sum of the entries' heights: so many rows are filled.
     pub height: usize,
-    /// The smallest power of two that is at least the height, 1 for height 0.
+    /// The smallest power of two that is at least the height and at least 256: all tables of one proof share it, and the byte lookup
+    /// always has 256 rows.
     pub padded_height: usize,
 }
 
@@ -175,6 +176,12 @@ pub fn record(sizes: &mut Sizes, keys: &mut [u64], multiplicities: &mut [u64], e
 /// The rows that a list needs.
 ///
 /// Refusals, in this order: shape; then entry by entry stranger, wide, bare log, count full.
+///
+/// ```
+/// use u32_table::{opcodes::AND, plan, Plan, Sizes};
+/// let sizes = Sizes { capacity: 1, used: 1 };
+/// assert_eq!(plan(sizes, &[AND, 3, 1], &[2]), Ok(Plan { height: 3, padded_height: 256 }));
+/// ```
 pub fn plan(sizes: Sizes, keys: &[u64], multiplicities: &[u64]) -> Result<Plan, Refusal> {
     let mut answers = [0; 2];
     done(sys::plan(sizes.numbers(), keys, multiplicities, &mut answers))?;

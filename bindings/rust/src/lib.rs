@@ -17,7 +17,7 @@
 //! list.record(Entry::new(AND, 3, 1))?;
 //!
 //! let plan = list.plan()?;
-//! assert_eq!((plan.height, plan.padded_height), (3, 4));
+//! assert_eq!((plan.height, plan.padded_height), (3, 256));
 //! let mut table = vec![0; plan.padded_height * COLUMNS];
 //! let mut aux = vec![0; plan.padded_height * AUX_COLUMNS];
 //!

@@ -116,7 +116,7 @@ fn plan_fill_and_write_refuse() {
     // a multiplicity of 0 and repeated keys are filled; only writing refuses the repeat, before the room
     let repeated = lent(3, &[(AND, 3, 1, 0), (LT, 0, 0, 1), (AND, 3, 1, 9)]);
     let mut table = vec![3; 7 * COLUMNS];
-    assert_eq!(repeated.plan(), Ok((7, 8)));
+    assert_eq!(repeated.plan(), Ok((7, 256)));
     assert_eq!(repeated.fill(&mut table[..6 * COLUMNS]), Err(Short));
     assert!(table.iter().all(|w| *w == 3));
     assert_eq!(repeated.fill(&mut table), Ok(7));

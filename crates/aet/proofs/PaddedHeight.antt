@@ -1,6 +1,6 @@
--- paddedHeight h is the smallest power of two that is at least h: it is one (padded-power), it is at least h (padded-at-least), and no
--- power of two that is at least h is smaller (padded-least). Each is shown of the doublings from any power of two on, by induction on
--- their number; h doublings are enough, since each adds one or more. Assumes nothing.
+-- paddedHeight h is the smallest power of two that is at least h and at least 256: it is one (padded-power), it is at least h
+-- (padded-at-least) and 256 (padded-not-below), and no power of two that is at least both is smaller (padded-least). Each is shown of the
+-- doublings from any power of two on, by induction on their number; h doublings are enough, since each adds one or more. Assumes nothing.
 use Prim.Native.Nat.{ℕ, zero, suc, _+_, _*_, _^_, _≤_, _<_}
 use mathlib.Core.Path.{_≡_, refl, sym, ap, subst, _∙_}
 use mathlib.Core.Bool.{Bool, true, false, cond}
@@ -10,6 +10,7 @@ use native.Mathlib.Omega.{arith}
 use lib.Dec.{ltb}
 use lib.Pow.{pow-pos, pow-mono}
 use borrow.Author.Tests.{ltb-true, ltb-false, lt-ltb, le-ltb}
+use Rattle.words.specs.Limits.{minPaddedHeight}
 use Rattle.aet.specs.Heights.{doubledTo, paddedHeight}
 
 below-or-not : (a b : ℕ) → (a < b) ⊎ (b ≤ a)
@@ -58,6 +59,22 @@ doubled-at-least (suc n) q h p a =
     (λ (l : h ≤ q). rw (le-ltb q h l) l)
     (below-or-not q h)
 
+doubled-from : (n q h : ℕ) → q ≤ doubledTo n q h
+doubled-from zero q h = omega arith
+doubled-from (suc n) q h =
+    ⊎-elim
+    (λ (l : q < h). rw (lt-ltb q h l) (omega (arith, doubled-from n (2 * q) h)))
+    (λ (l : h ≤ q). rw (le-ltb q h l) (omega arith))
+    (below-or-not q h)
+
+-- 256 is 2^8
+eight : (k : ℕ) → 256 ≤ 2 ^ k → 8 ≤ k
+eight k m =
+    ⊎-elim
+    (λ (l : k < 8). let k7 : k ≤ 7 = omega arith in let top : 2 ^ k ≤ 2 ^ 7 = pow-mono k7 in absurd (omega arith))
+    (λ (l : 8 ≤ k). l)
+    (below-or-not k 8)
+
 -- 2^j < h ≤ 2^k leaves j < k
 exponents : (j k h : ℕ) → 2 ^ j < h → h ≤ 2 ^ k → suc j ≤ k
 exponents j k h a b =
@@ -75,27 +92,35 @@ doubled-least (suc n) j k h l b =
 
 pub padded-power : (h : ℕ) → (k : ℕ) × (paddedHeight h ≡ 2 ^ k)
 unfolding paddedHeight
-padded-power h = doubled-power h 0 h
+padded-power h = doubled-power h 8 h
 
 pub padded-at-least : (h : ℕ) → h ≤ paddedHeight h
 unfolding paddedHeight
-padded-at-least h = doubled-at-least h 1 h (omega arith) (omega arith)
+padded-at-least h = doubled-at-least h minPaddedHeight h (omega arith) (omega arith)
 
-pub padded-least : (h k : ℕ) → h ≤ 2 ^ k → paddedHeight h ≤ 2 ^ k
+pub padded-not-below : (h : ℕ) → minPaddedHeight ≤ paddedHeight h
 unfolding paddedHeight
-padded-least h k b = doubled-least h 0 k h (omega arith) b
+padded-not-below h = doubled-from h minPaddedHeight h
 
-pub padded-zero : paddedHeight 0 ≡ 1
+-- and no smaller power of two is at least both
+pub padded-least : (h k : ℕ) → h ≤ 2 ^ k → minPaddedHeight ≤ 2 ^ k → paddedHeight h ≤ 2 ^ k
+unfolding paddedHeight
+padded-least h k b m = doubled-least h 8 k h (eight k m) b
+
+-- "An empty list now gives 256."
+pub padded-zero : paddedHeight 0 ≡ 256
 unfolding paddedHeight
 padded-zero = refl
 
 -- it is positive
 pub padded-positive : (h : ℕ) → 1 ≤ paddedHeight h
-padded-positive h = omega (arith, padded-power h .1, pow-pos (padded-power h .0))
+padded-positive h = omega (arith, padded-not-below h)
 
--- the three properties determine it
-pub padded-unique : (h k : ℕ) → h ≤ 2 ^ k → ((j : ℕ) → h ≤ 2 ^ j → 2 ^ k ≤ 2 ^ j) → paddedHeight h ≡ 2 ^ k
-padded-unique h k b least =
-    le-antisymm (padded-least h k b)
+-- the properties determine it
+pub padded-unique : (h k : ℕ) → h ≤ 2 ^ k → minPaddedHeight ≤ 2 ^ k
+    → ((j : ℕ) → h ≤ 2 ^ j → minPaddedHeight ≤ 2 ^ j → 2 ^ k ≤ 2 ^ j) → paddedHeight h ≡ 2 ^ k
+padded-unique h k b m least =
+    le-antisymm (padded-least h k b m)
     (subst (λ (x : ℕ). 2 ^ k ≤ x) (sym (padded-power h .1))
-    (least (padded-power h .0) (subst (λ (x : ℕ). h ≤ x) (padded-power h .1) (padded-at-least h))))
+    (least (padded-power h .0) (subst (λ (x : ℕ). h ≤ x) (padded-power h .1) (padded-at-least h))
+    (subst (λ (x : ℕ). minPaddedHeight ≤ x) (padded-power h .1) (padded-not-below h))))

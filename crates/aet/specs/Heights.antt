@@ -3,6 +3,7 @@ use Prim.Native.Nat.{ℕ, zero, suc, _*_}
 use mathlib.Core.Bool.{cond}
 use mathlib.Core.List.{[], _∷_}
 use lib.Dec.{ltb}
+use Rattle.words.specs.Limits.{minPaddedHeight}
 use Rattle.words.specs.Answers.{Answer, done, declined}
 use Rattle.words.specs.declared.Judgement.{Judgement}
 use Rattle.words.specs.declared.Judgement.the-variants.{Fine, Declined}
@@ -16,9 +17,9 @@ abbrev pub doubledTo : ℕ → ℕ → ℕ → ℕ
 doubledTo zero q h = q
 doubledTo (suc fuel) q h = cond (ltb q h) (doubledTo fuel (2 * q) h) q
 
--- "padded height: the smallest power of two at least the height, 1 for height 0"; h doublings are enough (proofs/PaddedHeight.antt)
+-- "the smallest power of two that is at least the list's height and at least 256"; h doublings are enough (proofs/PaddedHeight.antt)
 unfoldable pub paddedHeight : ℕ → ℕ
-paddedHeight h = doubledTo h 1 h
+paddedHeight h = doubledTo h minPaddedHeight h
 
 -- "The plan answers height and padded height": 1, then 2 to 5 entry by entry
 abbrev pub plannedAs : Judgement → ℕ → Answer

@@ -1,6 +1,6 @@
 // Planning and recording. A list is its sizes, its keys, three words a place, and its multiplicities, one a place.
 ghost use mathlib.Core.Path.{_≡_};
-ghost use Prim.Native.Nat.{_^_, _≤_};
+ghost use Prim.Native.Nat.{_^_, _≤_, _<_};
 ghost use Rattle.isa.specs.Entries.{entry};
 ghost use Rattle.lists.specs.Lists.{u32List};
 ghost use Rattle.aet.specs.Heights.{paddedHeight, planAll, plannedAnswer};
@@ -11,6 +11,7 @@ use lists::Judged;
 pub use lists::Sizes;
 use words::Judgement;
 pub use words::MAX_PLACES;
+use words::MIN_PADDED_HEIGHT;
 use words::MULTIPLICITY_LIMIT;
 use words::Refusal;
 
@@ -32,15 +33,17 @@ pub struct Recording {
     pub sizes: Sizes,
 }
 
-// The smallest power of two that is at least the height, for every height up to 2^63: no list is near that.
+// The smallest power of two that is at least the height and at least 256. Above 2^63 no word holds it, and the answer is 0; no list is
+// near that.
 pub fn padded_height(height: u64) -> u64
-    ensures { λ r. ⌜ (height ≤ 2 ^ 63 → r ≡ paddedHeight height) ⌝ }
+    ensures exact { λ r. ⌜ (height ≤ 2 ^ 63 → r ≡ paddedHeight height) ⌝ }
+    ensures past_a_word { λ r. ⌜ (2 ^ 63 < height → r ≡ 0) ⌝ }
 {
-    let mut padded: u64 = 1;
+    if 9223372036854775808 < height {
+        return 0;
+    }
+    let mut padded: u64 = MIN_PADDED_HEIGHT;
     while padded < height {
-        if 9223372036854775808 <= padded {
-            return padded;
-        }
         padded *= 2;
     }
     padded

@@ -1,83 +1,49 @@
--- Document 01's printed example, worked out from the definitions (`printed-example`). Each call's definition is computed on what the one
--- before it leaves, down to literals, and the text is put together from the answers. An inverse is a power with an exponent of 64 bits, which is not
--- computed as it stands: the few that occur are rewritten first.
+-- Document 01's printed example on 256 rows, from the definitions (`printed-example`). Reading, the plan and the section of the one entry are
+-- computed, down to literals. The 253 rows of padding are not: that pad and extend refuse nothing, what the last sum is, and that the
+-- check's answer is zero come from the claim over the four calls, and the padding's lines from one line. An inverse is a power with an exponent of
+-- 64 bits, which is not computed as it stands: the few that occur are rewritten first. Assumes nothing.
 use Prim.Native.Nat.{ℕ}
-use mathlib.Core.Path.{_≡_, refl, sym}
+use mathlib.Core.Path.{_≡_, refl, sym, ap, subst, _∙_}
 use mathlib.Core.Bool.{true}
 use mathlib.Core.List.{List, [], _∷_, _++_, flatMap}
+use lib.Dec.{lit<}
 use lib.ListN.{drop, replicate}
-use Rattle.field.specs.Elements.{invF, addF, subF, mulF, negF}
+use Rattle.field.specs.Elements.{invF, addF, subF, mulF}
 use Rattle.field.proofs.Powers.{invF-computed}
-use Rattle.xfield.specs.Extension.{Ext, ext, oneX, addX, subX, mulX, scaleX, HasInverse, equalX, isZeroX}
+use Rattle.xfield.specs.Extension.{Ext, ext, zeroX, oneX, addX, subX, mulX, scaleX, HasInverse, equalX, isZeroX}
 use Rattle.xfield.proofs.Inverses.{invX, invX-only}
 use Rattle.xfield.proofs.RingLawsX.{reduceX-reduced}
-use Rattle.words.specs.Answers.{done}
+use Rattle.words.specs.Answers.{Answer, done}
 use Rattle.words.specs.Refusals.{firstReason}
 use Rattle.words.specs.LittleEndian.{leAt}
+use Rattle.words.specs.declared.Judgement.the-variants.{Fine}
 use Rattle.isa.specs.Opcodes.{isOpcode}
 use Rattle.isa.specs.Entries.{judgeEntry, admitted, admit, dominant, heightOf, height}
 use Rattle.isa.specs.PlainFunctions.{floorLog2}
 use Rattle.lists.specs.Lists.{U32List, u32List, keyAt, multiplicityAt, entryAt, listShape, countFull, judgePlace, judgeList}
-use Rattle.lists.specs.Heights.{getsSection, sectionPlacesTo, entriesAt, sumHeights, listHeight}
+use Rattle.lists.specs.Heights.{getsSection, sectionPlacesTo, sectionPlaces, entriesAt, sumHeights, listHeight}
 use Rattle.lists.specs.Places.{placesFrom}
 use Rattle.aet.specs.Heights.{paddedHeight, planAll}
 use Rattle.packed.specs.Packed.{storedN, storedHeight, storedEntry, storedMultiplicity}
 use Rattle.repeats.specs.Repeats.{occurs, repeats}
 use Rattle.stored.specs.Stored.{torn, admitStored, tally, contentReason, readReason, readAll}
-use Rattle.air.specs.Columns.{rowAt, elementAt, tableShape, auxShape, allReduced}
+use Rattle.air.specs.Columns.{Row, elementAt, tableShape, auxShape, allReduced}
 use Rattle.air.specs.Challenges.{challengesOf, challengesShape, compressedRow, denominator}
-use Rattle.air.specs.RunningSum.{addSummand, runningSum, denominatorOk, denominatorsOk, summandAt, lookupSum}
-use Rattle.air.specs.Constraints.{deselectFrom, instructionDeselector, oneMinusProduct, ciIsPow, lhsLsb, rhsLsb, equalBits, initialConstraints, consistencyConstraints, transitionConstraints, terminalConstraints}
-use Rattle.air.specs.Constraints.{«running_sum_log_derivative_starts_correctly»}
-use Rattle.air.specs.Constraints.{«copy_flag_is_bit»}
-use Rattle.air.specs.Constraints.{«copy_flag_is_0_or_bits_is_0»}
-use Rattle.air.specs.Constraints.{«bits_minus_33_inv_is_inverse_of_bits_minus_33»}
-use Rattle.air.specs.Constraints.{«lhs_inv_is_0_or_the_inverse_of_lhs»}
-use Rattle.air.specs.Constraints.{«lhs_is_0_or_lhs_inverse_is_the_inverse_of_lhs»}
-use Rattle.air.specs.Constraints.{«rhs_inv_is_0_or_the_inverse_of_rhs»}
-use Rattle.air.specs.Constraints.{«rhs_is_0_or_rhs_inverse_is_the_inverse_of_rhs»}
-use Rattle.air.specs.Constraints.{«result_is_initialized_correctly_for_lt_with_copy_flag_0»}
-use Rattle.air.specs.Constraints.{«result_is_initialized_correctly_for_lt_with_copy_flag_1»}
-use Rattle.air.specs.Constraints.{«result_is_initialized_correctly_for_and»}
-use Rattle.air.specs.Constraints.{«result_is_initialized_correctly_for_pow»}
-use Rattle.air.specs.Constraints.{«result_is_initialized_correctly_for_log_2_floor»}
-use Rattle.air.specs.Constraints.{«result_is_initialized_correctly_for_pop_count»}
-use Rattle.air.specs.Constraints.{«if_log_2_floor_on_0_then_vm_crashes»}
-use Rattle.air.specs.Constraints.{«if_copy_flag_is_0_then_lookup_multiplicity_is_0»}
-use Rattle.air.specs.Constraints.{«if_copy_flag_next_is_1_then_lhs_is_0_or_ci_is_pow»}
-use Rattle.air.specs.Constraints.{«if_copy_flag_next_is_1_then_rhs_is_0»}
-use Rattle.air.specs.Constraints.{«if_copy_flag_next_is_0_then_ci_stays»}
-use Rattle.air.specs.Constraints.{«if_copy_flag_next_is_0_and_lhs_next_is_nonzero_and_ci_not_pow_then_bits_increases_by_1»}
-use Rattle.air.specs.Constraints.{«if_copy_flag_next_is_0_and_rhs_next_is_nonzero_then_bits_increases_by_1»}
-use Rattle.air.specs.Constraints.{«if_copy_flag_next_is_0_and_ci_not_pow_then_lhs_lsb_is_a_bit»}
-use Rattle.air.specs.Constraints.{«if_copy_flag_next_is_0_then_rhs_lsb_is_a_bit»}
-use Rattle.air.specs.Constraints.{«if_copy_flag_next_is_0_and_ci_is_lt_and_result_next_is_0_then_result_is_0»}
-use Rattle.air.specs.Constraints.{«if_copy_flag_next_is_0_and_ci_is_lt_and_result_next_is_1_then_result_is_1»}
-use Rattle.air.specs.Constraints.{«if_copy_flag_next_is_0_and_ci_is_lt_and_result_next_is_2_and_lt_is_0_then_result_is_0»}
-use Rattle.air.specs.Constraints.{«if_copy_flag_next_is_0_and_ci_is_lt_and_result_next_is_2_and_lt_is_1_then_result_is_1»}
-use Rattle.air.specs.Constraints.{«if_copy_flag_next_is_0_and_ci_is_lt_and_result_still_not_known_then_result_is_2»}
-use Rattle.air.specs.Constraints.{«if_copy_flag_next_is_0_and_ci_is_lt_and_copy_flag_dictates_result_then_result_is_0»}
-use Rattle.air.specs.Constraints.{«if_copy_flag_next_is_0_and_ci_is_and_then_results_updates_correctly»}
-use Rattle.air.specs.Constraints.{«if_copy_flag_next_is_0_and_ci_is_log_2_floor_lhs_next_0_for_first_time_then_set_result»}
-use Rattle.air.specs.Constraints.{«if_copy_flag_next_is_0_and_ci_is_log_2_floor_and_lhs_next_not_0_then_copy_result»}
-use Rattle.air.specs.Constraints.{«if_copy_flag_next_is_0_and_ci_is_pow_then_lhs_remains_unchanged»}
-use Rattle.air.specs.Constraints.{«if_copy_flag_next_is_0_and_ci_is_pow_and_rhs_lsb_is_0_then_result_squares»}
-use Rattle.air.specs.Constraints.{«if_copy_flag_next_is_0_and_ci_is_pow_and_rhs_lsb_is_1_then_result_squares_and_mults»}
-use Rattle.air.specs.Constraints.{«if_copy_flag_next_is_0_and_ci_is_pop_count_then_result_increases_by_lhs_lsb»}
-use Rattle.air.specs.Constraints.{«if_copy_flag_next_is_0_then_running_sum_log_derivative_stays»}
-use Rattle.air.specs.Constraints.{«if_copy_flag_next_is_1_then_running_sum_log_derivative_accumulates_next_row»}
-use Rattle.air.specs.Constraints.{«lhs_is_0_or_ci_is_pow»}
-use Rattle.air.specs.Constraints.{«rhs_is_0»}
-use Rattle.air.specs.Check.{judgeCheck, firstIn, firstInRows, firstNonzero, checkAll}
+use Rattle.air.specs.Check.{checkAll}
 use Rattle.results.specs.Results.{isEnd, ending, carryAnd, carry}
 use Rattle.sections.specs.Sections.{bitsMinus33Inverse, sectionFrom, section, tableWords}
-use Rattle.u32_table.specs.Filling.{sectionsAt, fillReason, fillAll}
-use Rattle.u32_table.specs.Padding.{paddingRow, padReason, padAll}
-use Rattle.u32_table.specs.Extending.{extendReason, sumWords, extendAll}
-use Rattle.text.specs.Lines.{digitsOf, decimal, lineRest, line, headLine, rowLine, sumLine, verdictLine}
-use Rattle.transcript.specs.Transcript.{challengeBytes, challengesIn, unusedPlaces, unlessRefused, rowLines, openingText, resultText}
+use Rattle.u32_table.specs.Filling.{Sections, joined, noSections, sectionsAt, fillReason}
+use Rattle.u32_table.specs.Padding.{paddingRow}
+use Rattle.u32_table.specs.Extending.{elementWords, extendAll}
+use Rattle.honest.specs.FourCalls.{firstRows, sumFrom, noneZero, extendRefusals, copyFlag1, paddedTable, extendedAux, NoneRefuses}
+use Rattle.honest.proofs.Calls.{Filled, fill-filled, finalRows, padded-is}
+use Rattle.honest.proofs.FourCalls.{four-calls, none-refuses}
+use Rattle.text.specs.Lines.{ascii, digitsOf, decimal, lineRest, line, headLine, rowLine, sumLine, verdictLine}
+use Rattle.transcript.specs.Transcript.{challengeBytes, challengesIn, zeros, unusedPlaces, unlessRefused, rowLines, openingText, resultText}
 use Rattle.transcript.specs.Transcript.{checkedText, extendedText, paddedText, callsText, heightText, listText, readText, transcriptOf}
-use Rattle.printed_example.specs.PrintedExample.{input, printed}
+use Rattle.transcript.proofs.Steps.{text-made}
+use Rattle.printed_example.specs.PrintedExample.{input, repeated, printed}
+use Rattle.printed_example.proofs.Lines.{lineOf, lines-join, lines-of-words, lines-same}
 
 -- ---- reading
 -- the list: one of 2,048 places in use
@@ -99,11 +65,11 @@ height-is : listHeight list ≡ 3
 unfolding listHeight getsSection sectionPlacesTo entriesAt sumHeights height heightOf dominant admitted entryAt keyAt floorLog2
 height-is = refl
 
-padded-height-is : paddedHeight 3 ≡ 4
+padded-height-is : paddedHeight 3 ≡ 256
 unfolding paddedHeight
 padded-height-is = refl
 
-plan-is : planAll list ≡ done (3 ∷ 4 ∷ [])
+plan-is : planAll list ≡ done (3 ∷ 256 ∷ [])
 unfolding planAll paddedHeight judgeList listShape judgePlace countFull entryAt keyAt multiplicityAt judgeEntry isOpcode firstReason listHeight getsSection sectionPlacesTo entriesAt sumHeights height heightOf dominant admitted floorLog2
 plan-is = refl
 
@@ -143,39 +109,113 @@ one-inverse =
       none = λ f. absurd (f one-has-inverse);
     }))
 
--- ---- fill, pad, extend, check
-abbrev section-words : List ℕ → List ℕ
-section-words rest =
-    1 ∷ 0 ∷ 15651782846776010939 ∷ 14 ∷ 3 ∷ 12297829379609722881 ∷ 1 ∷ 1 ∷ 1 ∷ 2
-    ∷ 0 ∷ 1 ∷ 576460752169205760 ∷ 14 ∷ 1 ∷ 1 ∷ 0 ∷ 0 ∷ 0 ∷ 0
-    ∷ 0 ∷ 2 ∷ 7140675123644355221 ∷ 14 ∷ 0 ∷ 0 ∷ 0 ∷ 0 ∷ 0 ∷ 0 ∷ rest
+-- ---- fill: the section's three rows, and padding below them
+abbrev table : List ℕ
+table = zeros 2560
 
-abbrev filled : List ℕ
-filled = section-words (replicate 10 0)
+abbrev aux : List ℕ
+aux = zeros 768
 
-abbrev padded : List ℕ
-padded = section-words (0 ∷ 0 ∷ 15651782846776010939 ∷ 14 ∷ replicate 6 0)
+fill-fine : fillReason list table ≡ Fine
+unfolding fillReason tableShape judgeList listShape judgePlace countFull entryAt keyAt multiplicityAt judgeEntry isOpcode firstReason listHeight getsSection sectionPlacesTo entriesAt sumHeights height heightOf dominant admitted floorLog2
+fill-fine = refl
 
-abbrev sums : List ℕ
-sums = 2 ∷ 0 ∷ 0 ∷ 2 ∷ 0 ∷ 0 ∷ 2 ∷ 0 ∷ 0 ∷ 2 ∷ 0 ∷ 0 ∷ []
+abbrev row : (a b c d e f g h i j : ℕ) → Row
+row a b c d e f g h i j = record {
+  copyFlag = a;
+  bits = b;
+  bitsMinus33Inv = c;
+  ci = d;
+  lhs = e;
+  lhsInv = f;
+  rhs = g;
+  rhsInv = h;
+  result = i;
+  lookupMultiplicity = j;
+}
 
-fill-is : fillAll list (replicate 40 0) ≡ record { answer = done (3 ∷ []); table = filled }
-unfolding fillAll fillReason tableShape judgeList listShape judgePlace countFull entryAt keyAt multiplicityAt judgeEntry isOpcode firstReason listHeight getsSection sectionPlacesTo entriesAt sumHeights height heightOf dominant admitted floorLog2 sectionsAt section sectionFrom isEnd ending carry carryAnd tableWords addF mulF
-fill-is = rw (bits-0, bits-1, bits-2, inverse-0, inverse-1, inverse-3) refl
+abbrev first-row : Row
+first-row = row 1 0 15651782846776010939 14 3 12297829379609722881 1 1 1 2
 
-pad-is : padAll filled 3 ≡ record { answer = done []; table = padded }
-unfolding padAll padReason tableShape allReduced rowAt tableWords paddingRow
-pad-is = rw bits-0 refl
+abbrev section-rows : List Row
+section-rows =
+    first-row
+    ∷ row 0 1 576460752169205760 14 1 1 0 0 0 0
+    ∷ row 0 2 7140675123644355221 14 0 0 0 0 0 0 ∷ []
 
-extend-is : extendAll padded (replicate 12 0) challenges ≡ record { answer = done (2 ∷ 0 ∷ 0 ∷ []); aux = sums }
-unfolding extendAll extendReason tableShape auxShape challengesShape allReduced denominatorsOk denominatorOk summandAt rowAt challengesOf denominator compressedRow lookupSum runningSum addSummand sumWords addX subX scaleX mulX addF subF mulF elementAt isZeroX equalX
-extend-is = rw one-inverse refl
+abbrev padding : Row
+padding = row 0 0 15651782846776010939 14 0 0 0 0 0 0
 
-check-is : checkAll padded sums challenges ≡ done []
-unfolding checkAll judgeCheck firstNonzero firstIn firstInRows tableShape auxShape challengesShape allReduced rowAt elementAt challengesOf denominator compressedRow addX subX scaleX mulX isZeroX equalX addF subF mulF negF deselectFrom instructionDeselector oneMinusProduct ciIsPow lhsLsb rhsLsb equalBits «running_sum_log_derivative_starts_correctly» initialConstraints «copy_flag_is_bit» «copy_flag_is_0_or_bits_is_0» «bits_minus_33_inv_is_inverse_of_bits_minus_33» «lhs_inv_is_0_or_the_inverse_of_lhs» «lhs_is_0_or_lhs_inverse_is_the_inverse_of_lhs» «rhs_inv_is_0_or_the_inverse_of_rhs» «rhs_is_0_or_rhs_inverse_is_the_inverse_of_rhs» «result_is_initialized_correctly_for_lt_with_copy_flag_0» «result_is_initialized_correctly_for_lt_with_copy_flag_1» «result_is_initialized_correctly_for_and» «result_is_initialized_correctly_for_pow» «result_is_initialized_correctly_for_log_2_floor» «result_is_initialized_correctly_for_pop_count» «if_log_2_floor_on_0_then_vm_crashes» «if_copy_flag_is_0_then_lookup_multiplicity_is_0» consistencyConstraints «if_copy_flag_next_is_1_then_lhs_is_0_or_ci_is_pow» «if_copy_flag_next_is_1_then_rhs_is_0» «if_copy_flag_next_is_0_then_ci_stays» «if_copy_flag_next_is_0_and_lhs_next_is_nonzero_and_ci_not_pow_then_bits_increases_by_1» «if_copy_flag_next_is_0_and_rhs_next_is_nonzero_then_bits_increases_by_1» «if_copy_flag_next_is_0_and_ci_not_pow_then_lhs_lsb_is_a_bit» «if_copy_flag_next_is_0_then_rhs_lsb_is_a_bit» «if_copy_flag_next_is_0_and_ci_is_lt_and_result_next_is_0_then_result_is_0» «if_copy_flag_next_is_0_and_ci_is_lt_and_result_next_is_1_then_result_is_1» «if_copy_flag_next_is_0_and_ci_is_lt_and_result_next_is_2_and_lt_is_0_then_result_is_0» «if_copy_flag_next_is_0_and_ci_is_lt_and_result_next_is_2_and_lt_is_1_then_result_is_1» «if_copy_flag_next_is_0_and_ci_is_lt_and_result_still_not_known_then_result_is_2» «if_copy_flag_next_is_0_and_ci_is_lt_and_copy_flag_dictates_result_then_result_is_0» «if_copy_flag_next_is_0_and_ci_is_and_then_results_updates_correctly» «if_copy_flag_next_is_0_and_ci_is_log_2_floor_lhs_next_0_for_first_time_then_set_result» «if_copy_flag_next_is_0_and_ci_is_log_2_floor_and_lhs_next_not_0_then_copy_result» «if_copy_flag_next_is_0_and_ci_is_pow_then_lhs_remains_unchanged» «if_copy_flag_next_is_0_and_ci_is_pow_and_rhs_lsb_is_0_then_result_squares» «if_copy_flag_next_is_0_and_ci_is_pow_and_rhs_lsb_is_1_then_result_squares_and_mults» «if_copy_flag_next_is_0_and_ci_is_pop_count_then_result_increases_by_lhs_lsb» «if_copy_flag_next_is_0_then_running_sum_log_derivative_stays» «if_copy_flag_next_is_1_then_running_sum_log_derivative_accumulates_next_row» transitionConstraints «lhs_is_0_or_ci_is_pow» «rhs_is_0» terminalConstraints
-check-is = refl
+sections-are : sectionsAt list (sectionPlaces list) ≡ joined section-rows
+unfolding sectionPlacesTo getsSection entryAt keyAt multiplicityAt admitted sectionsAt section sectionFrom isEnd ending carry carryAnd addF mulF
+sections-are = rw (bits-0, bits-1, bits-2, inverse-0, inverse-1, inverse-3) refl
+
+filled : Filled list table (listHeight list)
+filled = fill-filled list table fill-fine
+
+rowsOf : Sections → List Row
+rowsOf (joined rows) = rows
+rowsOf noSections = []
+
+rows-are : filled .sections .all-rows ≡ section-rows
+unfolding rowsOf
+rows-are = ap rowsOf (sym (filled .sections .sections-are) ∙ sections-are)
+
+final-rows : finalRows filled ≡ section-rows ++ replicate 253 padding
+unfolding paddingRow
+final-rows = rw (rows-are, height-is, bits-0) refl
+
+-- ---- pad, extend, check: from the claim over the four calls, by the one first row
+first-rows : firstRows list ≡ first-row ∷ []
+unfolding copyFlag1
+first-rows = sym (filled .sections .first-rows) ∙ ap copyFlag1 rows-are
+
+refuses-nothing : extendRefusals list table aux challenges ≡ Fine
+unfolding extendRefusals auxShape challengesShape allReduced noneZero challengesOf elementAt denominator compressedRow addX subX scaleX addF subF mulF isZeroX equalX
+refuses-nothing = rw first-rows refl
+
+sum-is : sumFrom (challengesOf challenges) zeroX (firstRows list) ≡ ext 2 0 0
+unfolding sumFrom challengesOf elementAt denominator compressedRow addX subX scaleX addF subF mulF
+sum-is = rw (first-rows, one-inverse) refl
+
+none : NoneRefuses list table aux challenges (listHeight list) (2 ∷ 0 ∷ 0 ∷ [])
+none =
+    subst (λ (x : Ext). NoneRefuses list table aux challenges (listHeight list) (elementWords x)) sum-is
+    (none-refuses list table aux challenges fill-fine refuses-nothing)
+
+abbrev after : List ℕ
+after = paddedTable list table (listHeight list)
+
+check-is : checkAll after (extendedAux list table (listHeight list) aux challenges) challenges ≡ done []
+check-is = four-calls list table aux challenges (listHeight list) (2 ∷ 0 ∷ 0 ∷ []) (lit< tt) none .zero
 
 -- ---- the text
+calls-text : callsText list challenges (listHeight list) 256 table aux ≡ resultText 1 (listHeight list) 256 after (2 ∷ 0 ∷ 0 ∷ []) []
+unfolding callsText paddedText extendedText checkedText
+calls-text =
+    text-made _ _ (none .fill) ∙ text-made _ _ (none .pad) ∙ text-made _ _ (none .extend)
+    ∙ ap (λ (a : Answer). unlessRefused a (resultText 1 (listHeight list) 256 after (extendAll after aux challenges .answer .values) (a .values))) check-is
+    ∙ text-made _ [] refl
+    ∙ ap (λ (a : Answer). resultText 1 (listHeight list) 256 after (a .values) []) (none .extend)
+
+lines-are : rowLines after 256 ≡ flatMap lineOf section-rows ++ repeated 253 (lineOf padding)
+lines-are =
+    ap (λ (t : List ℕ). rowLines t 256) (padded-is filled ∙ ap tableWords final-rows)
+    ∙ lines-of-words (section-rows ++ replicate 253 padding)
+    ∙ lines-join section-rows (replicate 253 padding)
+    ∙ ap (λ (t : List ℕ). flatMap lineOf section-rows ++ t) (lines-same 253 padding)
+
+padding-line : lineOf padding ≡ ascii "0 0 15651782846776010939 14 0 0 0 0 0 0\n"
+unfolding line lineRest rowLine decimal digitsOf
+padding-line = refl
+
+calls-print : callsText list challenges 3 256 table aux ≡ printed
+unfolding resultText openingText flatMap line lineRest headLine rowLine sumLine verdictLine decimal digitsOf
+calls-print =
+    ap (λ (h : ℕ). callsText list challenges h 256 table aux) (sym height-is) ∙ calls-text
+    ∙ ap (λ (text : List ℕ). (headLine 1 (listHeight list) 256 ++ (text ++ sumLine (2 ∷ 0 ∷ 0 ∷ []))) ++ verdictLine []) lines-are
+    ∙ rw (height-is, padding-line) refl
+
 pub printed-example : transcriptOf input ≡ printed
-unfolding transcriptOf readText listText heightText callsText paddedText extendedText checkedText unlessRefused resultText openingText rowLines rowAt line lineRest headLine rowLine sumLine verdictLine decimal digitsOf
-printed-example = rw (reading-is, challenges-are, plan-is, height-is, padded-height-is, fill-is, pad-is, extend-is, check-is) refl
+unfolding transcriptOf readText listText heightText unlessRefused
+printed-example = rw (reading-is, challenges-are, plan-is, height-is, padded-height-is) calls-print

@@ -55,6 +55,10 @@ use Rattle.transcript.proofs.Fits.{transcript-fits}
 
 -- ---- a call that is refused, and one that is made
 
+pub text-made : {a : Answer} (text vs : List ℕ) → a ≡ done vs → unlessRefused a text ≡ text
+unfolding unlessRefused
+text-made text vs e = rw e
+
 pub reason-not-zero : (reason : Refusal) → eqb (refusalNumber reason) 0 ≡ false
 reason-not-zero Shape = refl
 reason-not-zero Stranger = refl

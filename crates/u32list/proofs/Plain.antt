@@ -35,14 +35,10 @@ use Rattle.honest.proofs.FourCalls.{four-calls, after-fill}
 use Rattle.text.specs.Lines.{refusedLine}
 use Rattle.transcript.specs.Transcript.{challengeBytes, challengesIn, zeros, unusedPlaces, unlessRefused, resultText}
 use Rattle.transcript.specs.Transcript.{checkedText, extendedText, paddedText, callsText, heightText, listText, readText, transcriptOf}
-use Rattle.transcript.proofs.Steps.{reason-not-zero}
+use Rattle.transcript.proofs.Steps.{text-made, reason-not-zero}
 use Rattle.u32list.specs.Plain.{plainTable, plainList, plainText}
 
 -- ---- answers
-
-made : {a : Answer} (text vs : List ℕ) → a ≡ done vs → unlessRefused a text ≡ text
-unfolding unlessRefused
-made text vs e = rw e
 
 -- texts that are the same wherever the call is not refused
 unless-same : (a : Answer) (x y : List ℕ) → (a .number ≡ 0 → x ≡ y) → unlessRefused a x ≡ unlessRefused a y
@@ -105,13 +101,13 @@ module _ (l : U32List) (fine : judgeList l ≡ Fine) (challenges : List ℕ) (pa
       let pads = after-fill l table height filled .pad-done in
       let extension = extendAll (paddedTable l table height) aux challenges in
       let r = fresh-rows padded in
-      made _ (height ∷ []) filled
-      ∙ made _ [] pads
+      text-made _ (height ∷ []) filled
+      ∙ text-made _ [] pads
       ∙ unless-same (extension .answer) _ _
       (λ e.
       let none : NoneRefuses l table aux challenges height (extension .answer .values) = record { fill = filled; pad = pads; extend = answer-done (extension .answer) e } in
       let zero = four-calls l table aux challenges height (extension .answer .values) (omega arith) none .zero in
-      rw zero (made _ [] refl))
+      rw zero (text-made _ [] refl))
 
 -- ---- the text of a list, of stored bytes, of the input
 
@@ -125,7 +121,7 @@ list-plainly : (l : U32List) (challenges : List ℕ) → judgeList l ≡ Fine
 unfolding listText heightText planAll plainList
 list-plainly l challenges fine =
     let padded = paddedHeight (listHeight l) in
-    made _ (listHeight l ∷ padded ∷ []) (rw fine)
+    text-made _ (listHeight l ∷ padded ∷ []) (rw fine)
     ∙ cond-same (ltb maxPrintedRows padded) _ _ _
     (λ e.
     calls-plainly l fine challenges padded (padded-at-least (listHeight l)) (padded-positive (listHeight l)) (ltb-false maxPrintedRows padded e))

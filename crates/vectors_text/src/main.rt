@@ -141,7 +141,7 @@ fn run(file: &[u8], counts: &mut [u64; 512]) {
 }
 
 fn main() {
-    let mut file = [0u8; 262144];
+    let mut file = [0u8; 524288];
     let n = io::read_full(STDIN_FILENO, &mut file);
     let mut counts = [0u64; 512];
     run(&file[..n], &mut counts);

@@ -18,6 +18,10 @@ multiplicityLimit = 4294967295
 abbrev pub maxInput : ℕ
 maxInput = 43136
 
+-- "the byte lookup always has 256 rows": no padded height is below it
+abbrev pub minPaddedHeight : ℕ
+minPaddedHeight = 256
+
 -- the program refuses "a padded height over 512" with 7
 abbrev pub maxPrintedRows : ℕ
 maxPrintedRows = 512

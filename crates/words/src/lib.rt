@@ -12,6 +12,9 @@ pub const MAX_PLACES: usize = 2048;
 // A table has at most this many rows.
 pub const MAX_ROWS: usize = 131072;
 
+// The byte lookup's rows: no padded height is below it.
+pub const MIN_PADDED_HEIGHT: u64 = 256;
+
 // No multiplicity is above this.
 pub const MULTIPLICITY_LIMIT: u64 = 4294967295;
 

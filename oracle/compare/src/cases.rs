@@ -34,7 +34,6 @@ mod listed {
     pub const ORDER: &str = "equality and order of entries";
     pub const MULTIPLICITY: &str = "multiplicities";
     pub const SIZE: &str = "the size of a list";
-    pub const PADDED: &str = "padded height";
     pub const WORDS: &str = "words of p or more";
     pub const BELOW: &str = "a table below the height";
     pub const FILLED: &str = "a filled count above the rows";
@@ -338,14 +337,12 @@ impl Comparison {
     /// Plan, each entry's height, and the order of neighbours.
     fn heights(&mut self, list: &[Entry], ours: &List, height: usize) -> Same {
         let plan = port::plan(ours);
-        let padded = height.max(1).next_power_of_two();
+        let padded = height.next_power_of_two().max(256);
         self.counts.heights += 1 + list.len() as u64;
         agree("plan", plan, [height, padded], plan == Ok([height as u64, padded as u64]))?;
         if !has_repeats(list) {
-            // The original's is that of its largest table; the byte lookup's has 256 rows.
             let original = theirs("padded height", || original_padded_height(list))?;
-            agree("padded height", padded, original, original == padded.max(256))?;
-            self.note(listed::PADDED);
+            agree("padded height", padded, original, original == padded)?;
         }
         for entry in list {
             let one = port::plan(&arrays(&[*entry], 1)).map(|[height, _]| height);

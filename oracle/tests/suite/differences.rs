@@ -147,10 +147,13 @@ fn an_aux_table_of_another_height() {
     assert!(panics(|| U32Table::extend(Array2::zeros([2, 10]).view(), aux.view_mut(), &challenges)));
 }
 
-/// Document 01: 1 for no entries, until a change request. The original's is the largest table's, and the byte lookup has 256 rows.
+/// No difference any more, since request 4: the original's padded height is the largest table's, and the byte lookup has 256 rows.
 #[test]
 fn padded_heights() {
     let list = |n: u64| (0..n).map(|lhs| entry(14, 1 << 31 | lhs, 0, 1)).collect::<Vec<_>>();
-    assert_eq!([256, 256, 512], [0, 7, 8].map(|n| original_padded_height(&list(n))));
-    assert_eq!([0, 231, 264], [0, 7, 8].map(|n| list_height(&list(n))));
+    for (n, height, padded) in [(0, 0, 256), (7, 231, 256), (8, 264, 512)] {
+        assert_eq!(height, list_height(&list(n)));
+        assert_eq!(padded, original_padded_height(&list(n)));
+        assert_eq!(padded, height.next_power_of_two().max(256));
+    }
 }

@@ -25,15 +25,14 @@ fn counts_of_the_groups() {
 
 #[test]
 fn the_printed_session() {
-    let expected = "\
-entries 1 rows 3 padded 4
+    let opening = "\
+entries 1 rows 3 padded 256
 1 0 15651782846776010939 14 3 12297829379609722881 1 1 1 2
 0 1 576460752169205760 14 1 1 0 0 0 0
 0 2 7140675123644355221 14 0 0 0 0 0 0
-0 0 15651782846776010939 14 0 0 0 0 0 0
-sum 2 0 0
-zero
 ";
+    let padding = "0 0 15651782846776010939 14 0 0 0 0 0 0\n".repeat(253);
+    let expected = format!("{opening}{padding}sum 2 0 0\nzero\n");
     assert_eq!(expected, text::session(&[entry(14, 3, 1, 2)], &PLAIN));
 }
 
@@ -62,10 +61,9 @@ fn the_proved_examples() {
 
 #[test]
 fn no_entries() {
-    assert_eq!(
-        "entries 0 rows 0 padded 1\n0 0 15651782846776010939 4 0 0 0 0 0 0\nsum 0 0 0\nzero\n",
-        text::session(&[], &PLAIN)
-    );
+    let padding = "0 0 15651782846776010939 4 0 0 0 0 0 0\n".repeat(256);
+    let expected = format!("entries 0 rows 0 padded 256\n{padding}sum 0 0 0\nzero\n");
+    assert_eq!(expected, text::session(&[], &PLAIN));
 }
 
 /// "Copying Result into the padding after lt on 0 and 0."

@@ -1,7 +1,7 @@
--- `aet::padded_height` meets its contract. The loop's invariant: doubling goes on from `padded` to the same number as from 1. The measure is
--- what `padded` lacks to the height. Where doubling would pass 2^64 the height is above 2^63, of which nothing is promised. Assumes nothing.
+-- `aet::padded_height` meets its contract. The loop's invariant: doubling goes on from `padded` to the same number as from 256. The measure
+-- is what `padded` lacks to the height. Inside the loop `padded` is below a height of at most 2^63, so its double is a word. Assumes nothing.
 use Prim.Native.Nat.{_≤_, _-_}
-use mathlib.Core.Path.{_≡_, sym, _∙_}
+use mathlib.Core.Path.{_≡_, refl, sym, _∙_}
 use native.Mathlib.Omega.{arith}
 use borrow.Author.Needs.{needs}
 use Rattle.aet.specs.Heights.{doubledTo, paddedHeight}
@@ -15,12 +15,12 @@ Inv-loop height padded₀ padded = (1 ≤ padded) × (paddedHeight height ≡ do
 abbrev μ-loop : tie.MeasureT-loop
 μ-loop height padded₀ padded = height - padded
 
+returns : tie.Need-returns Inv-loop μ-loop
+returns c = (λ h. absurd (omega arith), λ h. refl)
+
 loop-holds : tie.Need-loop-holds Inv-loop μ-loop
 unfolding paddedHeight
 loop-holds c = search needs
-
-returns : tie.Need-returns Inv-loop μ-loop
-returns c = λ h. absurd (omega arith)
 
 mul-padded : tie.Need-mul-padded Inv-loop μ-loop
 mul-padded c = search needs
@@ -31,14 +31,17 @@ loop-less c = search needs
 loop-again : tie.Need-loop-again Inv-loop μ-loop
 loop-again c = (
   search needs,
-  c .before .before .loop .inv .1
-      ∙ doubled-once (c .before .before .loop .padded) (c .before .before .before .args .height) (search needs) (search needs),
+  c .before .loop .inv .1
+      ∙ doubled-once (c .before .loop .padded) (c .before .before .before .args .height) (search needs) (search needs),
 )
 
 returns-2 : tie.Need-returns-2 Inv-loop μ-loop
-returns-2 c = λ h. sym (c .before .loop .inv .1 ∙ doubled-stops (c .before .before .args .height) (c .before .loop .padded) _ (search needs))
+returns-2 c = (
+  λ h. sym (c .before .loop .inv .1 ∙ doubled-stops (c .before .before .before .args .height) (c .before .loop .padded) _ (search needs)),
+  λ h. absurd (omega arith),
+)
 
 pub padded-height-spec : {M : Type 1} → statement M
 padded-height-spec =
     tie.close
-    (tie.spec Inv-loop μ-loop loop-holds returns mul-padded loop-less loop-again returns-2)
+    (tie.spec Inv-loop μ-loop returns loop-holds mul-padded loop-less loop-again returns-2)

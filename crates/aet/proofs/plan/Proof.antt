@@ -40,7 +40,7 @@ enum-known-reason c = search needs
 
 returns : tie.Need-returns
 returns c =
-    planned _ (sym (c .before .before .height .given .1) ∙ c .before .before .before .before .judge-list .ensures) (c .padded-height .ensures)
+    planned _ (sym (c .before .before .height .given .1) ∙ c .before .before .before .before .judge-list .ensures) (c .padded-height .ensures .0)
 
 returns-2 : tie.Need-returns-2
 returns-2 c = refused _ (sym (c .before .reason .given .1) ∙ c .before .before .before .judge-list .ensures)
