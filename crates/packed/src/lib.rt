@@ -26,7 +26,7 @@ pub fn stored_n(bytes: &[u8]) -> usize
     requires { ⌜ 4 ≤ length (now bytes) ⌝ }
     ensures { λ r. ⌜ r ≡ storedN (now (bytes .entry)) ⌝ }
 {
-    words::le_at(bytes, 0, 4) as usize
+    words::half_at(bytes, 0) as usize
 }
 
 // The height that the bytes say their entries have.
@@ -34,7 +34,7 @@ pub fn stored_height(bytes: &[u8]) -> u64
     requires { ⌜ 8 ≤ length (now bytes) ⌝ }
     ensures { λ r. ⌜ r ≡ storedHeight (now (bytes .entry)) ⌝ }
 {
-    words::le_at(bytes, 4, 4)
+    words::half_at(bytes, 4)
 }
 
 // The entry at place i of the bytes.
@@ -44,7 +44,7 @@ fn stored_entry(bytes: &[u8], i: usize) -> U32TableEntry
 {
     let at = HEAD_WIDTH + KEY_WIDTH * i;
     U32TableEntry {
-        opcode: words::le_at(bytes, at, 1),
+        opcode: words::byte_at(bytes, at),
         left_operand: words::word_at(bytes, at + 1),
         right_operand: words::word_at(bytes, at + 9),
     }
@@ -55,11 +55,7 @@ fn stored_multiplicity(bytes: &[u8], n: usize, i: usize) -> u64
     requires { ⌜ (n ≡ storedN (now bytes)) × (n ≤ maxPlaces) × (i < n) × (storedLength n ≤ length (now bytes)) ⌝ }
     ensures { λ r. ⌜ r ≡ storedMultiplicity (now (bytes .entry)) i ⌝ }
 {
-    words::le_at(
-        bytes,
-        HEAD_WIDTH + KEY_WIDTH * n + MULTIPLICITY_WIDTH * i,
-        MULTIPLICITY_WIDTH,
-    )
+    words::half_at(bytes, HEAD_WIDTH + KEY_WIDTH * n + MULTIPLICITY_WIDTH * i)
 }
 
 // Stores what the bytes hold in the first n places.

@@ -3,9 +3,10 @@
 use mathlib.Core.Path.{_≡_, refl, ap, _∙_}
 use mathlib.Core.List.{List, _∷_, _++_}
 use Prim.Native.Nat.{ℕ, zero, suc, _+_, _*_, _-_, _/_, _%_, _^_, _≤_, _<_}
-use native.Mathlib.Nat.{add-zero, zero-add, suc-add, add-assoc, mul-assoc, mul-le-mul-right, pow-suc}
+use native.Mathlib.Nat.{add-zero, add-suc, zero-add, suc-add, add-assoc, add-mul, mul-assoc, mul-comm, mul-le-mul-right, pow-suc}
 use native.Mathlib.Omega.{arith}
 use lib.ListN.{length, getD, take, drop, List·getD-append}
+use lib.Pow.{pow-add}
 use lib.Seq.{sets, drop-cons, getD-append-add}
 use Rattle.words.specs.LittleEndian.{leAt, le}
 use Rattle.words.proofs.Sets.{getD-sets-in}
@@ -35,9 +36,33 @@ leAt-head s at (suc k) =
     let p : getD s (at + suc k) 0 * 256 ^ suc k ≡ (getD s (suc at + k) 0 * 256 ^ k) * 256 = rw (e, pow-suc, mul-assoc) in
     omega (arith, h, p)
 
-pub leAt-none : (s : List ℕ) (at k i : ℕ) → k ≤ i → leAt s at (k - i) ≡ 0
+pub leAt-one : (s : List ℕ) (at : ℕ) → getD s at 0 ≡ leAt s at 1
 unfolding leAt
-leAt-none s at k i h = let e : k - i ≡ 0 = omega arith in rw e
+leAt-one s at = rw add-zero (omega arith)
+
+-- the number in j bytes and in the k bytes after them
+pub leAt-parts : (s : List ℕ) (at j k : ℕ) → leAt s at (j + k) ≡ leAt s at j + leAt s (at + j) k * 256 ^ j
+unfolding leAt
+leAt-parts s at j zero = rw add-zero (omega arith)
+leAt-parts s at j (suc k) =
+    let b = getD s (at + (j + k)) 0 in
+    let h = leAt-parts s at j k in
+    let p : b * 256 ^ (j + k) ≡ b * 256 ^ k * 256 ^ j = rw (pow-add, mul-comm (256 ^ j), mul-assoc) in
+    rw (add-suc, add-mul, add-assoc) (omega (arith, h, p))
+
+-- eight bytes, written out
+pub leAt-eight : (s : List ℕ) (at : ℕ)
+    → leAt s at 8
+    ≡ getD s at 0
+    + getD s (at + 1) 0 * 256
+    + getD s (at + 2) 0 * 256 ^ 2
+    + getD s (at + 3) 0 * 256 ^ 3
+    + getD s (at + 4) 0 * 256 ^ 4
+    + getD s (at + 5) 0 * 256 ^ 5
+    + getD s (at + 6) 0 * 256 ^ 6
+    + getD s (at + 7) 0 * 256 ^ 7
+unfolding leAt
+leAt-eight s at = rw add-zero (omega arith)
 
 pub leAt-bound : (s : List ℕ) → ((j : ℕ) → getD s j 0 < 256) → (at k : ℕ) → leAt s at k < 256 ^ k
 unfolding leAt

@@ -1,6 +1,6 @@
 // What every call shares: the reasons to decline, limits, little-endian numbers, and storing a run of words in a lent array.
 ghost use mathlib.Core.Path.{_≡_};
-ghost use Prim.Native.Nat.{_+_, _^_, _≤_, _<_};
+ghost use Prim.Native.Nat.{_+_, _≤_, _<_};
 ghost use lib.ListN.{length};
 ghost use lib.Seq.{sets};
 ghost use Rattle.words.specs.Refusals.{refusalNumber};
@@ -62,27 +62,33 @@ pub enum Judgement {
     Declined(Refusal),
 }
 
-// The number in the k bytes from place `at`, lowest first.
-pub fn le_at(bytes: &[u8], at: usize, k: usize) -> u64
-    requires { ⌜ (k ≤ 8) × (at + k ≤ length (now bytes)) ⌝ }
-    ensures exact { λ r. ⌜ r ≡ leAt (now (bytes .entry)) at k ⌝ }
-    ensures bound { λ r. ⌜ r < 256 ^ k ⌝ }
+// The byte at a place, as a word.
+pub fn byte_at(bytes: &[u8], at: usize) -> u64
+    requires { ⌜ at < length (now bytes) ⌝ }
+    ensures exact { λ r. ⌜ r ≡ leAt (now (bytes .entry)) at 1 ⌝ }
+    ensures bound { λ r. ⌜ r < 256 ⌝ }
 {
-    let mut n: u64 = 0;
-    let mut i = k;
-    while 0 < i {
-        i -= 1;
-        n = n * 256 + bytes[at + i] as u64;
-    }
-    n
+    bytes[at] as u64
 }
 
-// Eight bytes to a word.
+// The number in four bytes, with no loop: the sum of byte i times 256^i.
+pub fn half_at(bytes: &[u8], at: usize) -> u64
+    requires { ⌜ at + 4 ≤ length (now bytes) ⌝ }
+    ensures exact { λ r. ⌜ r ≡ leAt (now (bytes .entry)) at 4 ⌝ }
+    ensures bound { λ r. ⌜ r < 4294967296 ⌝ }
+{
+    byte_at(bytes, at)
+        + byte_at(bytes, at + 1) * 256
+        + byte_at(bytes, at + 2) * 65536
+        + byte_at(bytes, at + 3) * 16777216
+}
+
+// Eight bytes to a word, with no loop: the sum of byte i times 256^i.
 pub fn word_at(bytes: &[u8], at: usize) -> u64
     requires { ⌜ at + 8 ≤ length (now bytes) ⌝ }
     ensures { λ r. ⌜ r ≡ leAt (now (bytes .entry)) at 8 ⌝ }
 {
-    le_at(bytes, at, 8)
+    half_at(bytes, at) + half_at(bytes, at + 4) * 4294967296
 }
 
 // Puts the k lowest bytes of n at place `at`, lowest first.

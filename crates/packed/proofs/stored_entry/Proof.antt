@@ -15,8 +15,8 @@ mul-at c = search needs
 add-at : tie.Need-add-at
 add-at c = search needs
 
-le-at-requires : tie.Need-le-at-requires
-le-at-requires c κs = search needs
+byte-at-requires : tie.Need-byte-at-requires
+byte-at-requires c κs = search needs
 
 add-word-at : tie.Need-add-word-at
 add-word-at c = search needs
@@ -39,7 +39,7 @@ returns c =
     let e : 8 + 17 * i + 1 ≡ 9 + 17 * i = omega arith in
     let f : 8 + 17 * i + 9 ≡ 17 + 17 * i = omega arith in
     entries-same
-    (c .before .before .le-at .ensures .0)
+    (c .before .before .byte-at .ensures .0)
     (c .before .word-at .ensures ∙ ap (λ (a : ℕ). leAt s a 8) e)
     (c .word-at2 .ensures ∙ ap (λ (a : ℕ). leAt s a 8) f)
 
@@ -49,7 +49,7 @@ stored-entry-spec =
     (tie.spec
     mul-at
     add-at
-    le-at-requires
+    byte-at-requires
     add-word-at
     word-at-requires
     add-word-at-2

@@ -1,0 +1,70 @@
+-- `words::half_at` meets its contract: byte by byte, the number in those passed and the next byte make the number in one more. Assumes nothing.
+use native.Mathlib.Omega.{arith}
+use borrow.Author.Needs.{needs}
+use Rattle.words.proofs.LittleEndian.{leAt-parts}
+use Rattle.words.proofs.half_at.Statement.{statement}
+use Rattle.words.proofs.half_at.Tie as tie
+
+byte-at-requires : tie.Need-byte-at-requires
+byte-at-requires c κs = search needs
+
+add-byte-at : tie.Need-add-byte-at
+add-byte-at c = search needs
+
+byte-at-requires-2 : tie.Need-byte-at-requires-2
+byte-at-requires-2 c κs = search needs
+
+mul-result : tie.Need-mul-result
+mul-result c = search needs
+
+add-result : tie.Need-add-result
+add-result c = search needs
+
+add-byte-at-2 : tie.Need-add-byte-at-2
+add-byte-at-2 c = search needs
+
+byte-at-requires-3 : tie.Need-byte-at-requires-3
+byte-at-requires-3 c κs = search needs
+
+mul-result-2 : tie.Need-mul-result-2
+mul-result-2 c = search needs
+
+add-result-2 : tie.Need-add-result-2
+add-result-2 c = search needs
+
+add-byte-at-3 : tie.Need-add-byte-at-3
+add-byte-at-3 c = search needs
+
+byte-at-requires-4 : tie.Need-byte-at-requires-4
+byte-at-requires-4 c κs = search needs
+
+mul-result-3 : tie.Need-mul-result-3
+mul-result-3 c = search needs
+
+add-result-3 : tie.Need-add-result-3
+add-result-3 c = search needs
+
+returns : tie.Need-returns
+returns c =
+    let a = c .before .before .before .before .before .args in
+    let next = leAt-parts (a .bytes .now) (a .at) in
+    (omega (arith, next 1 1, next 2 1, next 3 1), omega arith)
+
+pub half-at-spec : {M : Type 1} → statement M
+half-at-spec =
+    tie.close
+    (tie.spec
+    byte-at-requires
+    add-byte-at
+    byte-at-requires-2
+    mul-result
+    add-result
+    add-byte-at-2
+    byte-at-requires-3
+    mul-result-2
+    add-result-2
+    add-byte-at-3
+    byte-at-requires-4
+    mul-result-3
+    add-result-3
+    returns)
