@@ -182,6 +182,15 @@ def tables():
     first = next(r for r in table if r[:1] == [1] and r[3] == LT)
     first[8] = 1 - first[8]
     yield "one-false-comparison", challenges, table
+    # and 3, 1 in as many rows as its height, and in fewer
+    rows = section((AND, 3, 1), 2)
+    yield "and-3-1-three-rows", challenges, rows
+    yield "and-3-1-two-rows", challenges, rows[:2]
+    yield "and-3-1-one-row", challenges, rows[:1]
+    # an entry of one row, once and twice
+    once = section((AND, 0, 0), 1)
+    yield "and-0-0", challenges, once
+    yield "and-0-0-twice", challenges, once + once
 
 
 def main():

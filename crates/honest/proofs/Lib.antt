@@ -8,5 +8,6 @@ pub mod Tables
 pub mod Sums
 pub mod Calls
 pub mod FourCalls
+pub mod LeastRows
 pub mod Runs
 pub mod Examples

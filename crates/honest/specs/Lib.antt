@@ -1,3 +1,4 @@
 pub mod FourCalls
+pub mod LeastRows
 pub mod Run
 pub mod Examples

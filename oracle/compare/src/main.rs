@@ -4,6 +4,7 @@ use std::time::{Duration, Instant};
 
 use oracle::inputs::Random;
 use oracle::*;
+use twenty_first::prelude::*;
 
 mod cases;
 mod port;
@@ -72,6 +73,10 @@ fn compare(seed: u64, size: Size) -> ExitCode {
     let seconds = start.elapsed().as_secs();
     print_counts(counts);
     match difference {
+        None if counts.passing.contains(&0) => {
+            println!("NOT COMPARED (seed {seed}): rows against heights, {:?}", counts.passing);
+            ExitCode::FAILURE
+        }
         None => {
             println!("seed {seed} seconds {seconds} differences 0");
             ExitCode::SUCCESS
@@ -90,6 +95,10 @@ fn print_counts(counts: &Counts) {
     println!("changed, foreign and random tables {} rows {}", counts.tables, counts.table_rows);
     println!("words {} constraint values {} of them not zero {}", counts.words, counts.values, counts.nonzero);
     println!("verdicts zero {} nonzero {}", counts.verdicts[0], counts.verdicts[1]);
+    println!(
+        "rows against heights, of changed and foreign tables that pass {} as many rows as the heights {}",
+        counts.passing[0], counts.passing[1]
+    );
     println!(
         "heights {} recordings {} orders {} written and read {} element operations {}",
         counts.heights, counts.recordings, counts.orders, counts.round_trips, counts.elements
@@ -246,7 +255,7 @@ impl Run {
         let challenges = challenges(random);
         let (spare, extra) = (random.below(4) as usize, random.below(5) as usize);
         let small: Vec<Entry> = list.iter().take(3).copied().collect();
-        vec![
+        let mut cases = vec![
             Case::List { list, spare, extra, challenges },
             damaged_list(random),
             changed_table(random, &small),
@@ -256,7 +265,11 @@ impl Run {
             order(random),
             order(random),
             Case::Elements { words: (0..12).map(|_| any_word(random)).collect() },
-        ]
+        ];
+        if round % 4 == 0 {
+            cases.push(stretched_table(random, &small));
+        }
+        cases
     }
 }
 
@@ -323,6 +336,45 @@ fn changed_table(random: &mut Random, list: &[Entry]) -> Case {
     if random.below(2) == 0 {
         aux = caught(|| extend(&rows, &challenges)).unwrap_or(aux);
     }
+    let filled = random.below(rows.len() as u64 + 1) as usize;
+    Case::Table { rows, aux, challenges, filled }
+}
+
+/// Sections as the original fills them and, below their ends, rows that no filler makes: with any Bits, with CopyFlag 1, walks along the bits
+/// of p, which is 0. Such a table passes.
+fn stretched_table(random: &mut Random, list: &[Entry]) -> Case {
+    let challenges = random.challenges();
+    let with_bits = |bits: u64| [bits, (BFieldElement::new(bits) - BFieldElement::new(33)).inverse().value()];
+    let mut rows: Vec<Row> = vec![];
+    for entry in list {
+        rows.extend(filled(&[*entry]));
+        for _ in 0..random.below(4) {
+            let [_, _, _, ci, lhs, lhs_inverse, ..] = rows[rows.len() - 1];
+            let result = match ci {
+                6 => 2,
+                12 => P - 1,
+                30 => 1,
+                _ => 0,
+            };
+            let row = |[bits, inverse]: [u64; 2]| [0, bits, inverse, ci, lhs, lhs_inverse, 0, 0, result, 0];
+            match random.below(4) {
+                0 if ci != 12 => {
+                    let mut first = row(with_bits(0));
+                    (first[0], first[9]) = (1, random.operand());
+                    first[8] = if ci == 6 { 0 } else { result };
+                    rows.push(first);
+                }
+                1 if ci == 14 || ci == 4 => rows.extend((0..64).map(|i| {
+                    let lhs = (P >> i) / 2;
+                    let mut step = row(with_bits(34 + i));
+                    (step[4], step[5]) = (lhs, if lhs == 0 { 0 } else { BFieldElement::new(lhs).inverse().value() });
+                    step
+                })),
+                _ => rows.push(row(with_bits(random.below(33)))),
+            }
+        }
+    }
+    let Ok(aux) = caught(|| extend(&rows, &challenges)) else { return foreign_table(random) };
     let filled = random.below(rows.len() as u64 + 1) as usize;
     Case::Table { rows, aux, challenges, filled }
 }

@@ -48,6 +48,18 @@ pub fn mul(a: u64, b: u64) -> u64 {
     (u128::from(a) * u128::from(b) % u128::from(P)) as u64
 }
 
+/// The inverse modulo p, 0 for 0: the power p - 2.
+pub fn inverse(a: u64) -> u64 {
+    (0..64).rev().fold(1, |acc, bit| {
+        let square = mul(acc, acc);
+        if (P - 2) >> bit & 1 == 1 {
+            mul(square, a)
+        } else {
+            square
+        }
+    })
+}
+
 /// The result of an instruction, by its plain function.
 pub fn plain_result(entry: Entry) -> u64 {
     let (l, r) = (entry.left_operand, entry.right_operand);
