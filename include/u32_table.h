@@ -34,12 +34,12 @@ enum {
     U32_TABLE_STRANGER = 2,   /* an opcode that is none of the six */
     U32_TABLE_WIDE = 3,       /* an operand outside its range */
     U32_TABLE_BARE_LOG = 4,   /* log_2_floor of 0 */
-    U32_TABLE_COUNT_FULL = 5, /* a multiplicity above 2^32 - 1; in recording, if one more would pass that */
+    U32_TABLE_COUNT_FULL = 5, /* a multiplicity above U32_TABLE_P - 1; in recording, if one more would pass that */
     U32_TABLE_LIST_FULL = 6,  /* a new key and no unused place; in reading, more entries than places */
     U32_TABLE_SHORT = 7,      /* too few rows or too few output bytes; a filled count above the rows; a check of no rows */
     U32_TABLE_UNREDUCED = 8,  /* a word that is U32_TABLE_P or more */
     U32_TABLE_FLAT = 9,       /* a row with CopyFlag 1 whose denominator is (0, 0, 0); see u32_table_extend */
-    U32_TABLE_TORN = 10,      /* stored bytes of the wrong length, or more than 2,048 entries in them */
+    U32_TABLE_TORN = 10,      /* stored bytes of neither of the two lengths, or more than 2,048 entries in them */
     U32_TABLE_REPEAT = 11,    /* equal keys in stored bytes, or in a list to be written */
     U32_TABLE_TALLY = 12      /* the stored height is not the sum of the entries' heights */
 };
@@ -83,8 +83,8 @@ enum {
 /* The number of elements of the base field, 2^64 - 2^32 + 1. */
 #define U32_TABLE_P UINT64_C(18446744069414584321)
 
-/* Bytes that a stored list of n entries takes. */
-#define U32_TABLE_STORED_BYTES(n) (8 + 21 * (size_t)(n))
+/* Bytes that a stored list of n entries takes. Lists of the old length, 8 + 21 n, are still read; see u32_table_read. */
+#define U32_TABLE_STORED_BYTES(n) (8 + 25 * (size_t)(n))
 
 /* How many words of `answers` each call states; u32_table_pad has none. */
 enum {
@@ -126,13 +126,22 @@ uint64_t u32_table_plan(size_t capacity, size_t used, const uint64_t *keys, size
 
 /* Reads a stored list: its N entries replace the first N places, and later places keep their words. `used` is how many places were used
  * before; afterwards it is N.
+ *
+ * byte_count tells the form: U32_TABLE_STORED_BYTES(N), as u32_table_write writes it, or the old length 8 + 21 N, with multiplicities of 4
+ * bytes. Any other length is TORN. A list that was read from the old form is written in the new one.
+ *
+ * Whoever stores lists must keep their length too. A list of the new length that is cut by exactly 4 N bytes has the old length and is accepted:
+ * its multiplicities are then the first N halves, of 4 bytes, of those that were stored. No refusal tells: TALLY looks at the keys alone. For
+ * example `and 3, 1` with multiplicity 2^32 + 2, 33 bytes, cut to 29 is read with multiplicity 2. Software that knows the old form alone refuses
+ * lists of the new length with TORN.
+ *
  * Answers: N.
- * Refusals, in this order: SHAPE; TORN; LIST_FULL; then entry by entry STRANGER, WIDE, BARE_LOG; REPEAT; TALLY. */
+ * Refusals, in this order: SHAPE; TORN; LIST_FULL; then entry by entry STRANGER, WIDE, BARE_LOG, COUNT_FULL; REPEAT; TALLY. */
 uint64_t u32_table_read(const uint8_t *bytes, size_t byte_count, size_t capacity, size_t used, uint64_t *keys, size_t key_words,
                         uint64_t *multiplicities, size_t places, uint64_t *answers, size_t answer_words);
 
 /* Writes a list as bytes from the start of `out`: 4 bytes number of entries, 4 bytes height, then for each entry opcode (1 byte), left
- * operand (8) and right operand (8), then the multiplicities (4 each), all little-endian. Bytes of `out` past the end keep their values.
+ * operand (8) and right operand (8), then the multiplicities (8 each), all little-endian. Bytes of `out` past the end keep their values.
  * Answers: the number of bytes written, U32_TABLE_STORED_BYTES(used).
  * Refusals, in this order: SHAPE; then entry by entry STRANGER, WIDE, BARE_LOG, COUNT_FULL; REPEAT; SHORT. */
 uint64_t u32_table_write(size_t capacity, size_t used, const uint64_t *keys, size_t key_words, const uint64_t *multiplicities,

@@ -94,6 +94,8 @@ LISTS = [
     [(LT, TOP, 0, 2)],
     [(LT, 2**31, TOP, TOP)],
     [(AND, 3, 1, 2)],
+    [(AND, 3, 1, TOP + 1)],
+    [(AND, 3, 1, P - 1)],
     [(AND, TOP, TOP, 1)],
     [(POW, 0, 0, 1)],
     [(POW, P - 1, 0, 1)],

@@ -25,6 +25,7 @@ RECORDINGS = [
     ([], [(AND, 3, 1), (AND, 3, 1), (AND, 1, 3), (AND, 3, 1), (LT, 3, 1)]),
     ([], [(POW, P - 1, TOP), (POW, 0, 0), (POW, P - 1, TOP), (POW, 0, 0), (POW, 0, 1)]),
     ([(LT, 2, 3, 0), (SPLIT, TOP, TOP, TOP - 1)], [(LT, 2, 3), (SPLIT, TOP, TOP), (LT, 3, 2), (LT, 2, 3)]),
+    ([(AND, 3, 1, TOP), (LT, 2, 3, P - 4)], [(AND, 3, 1), (LT, 2, 3), (AND, 3, 1), (LT, 2, 3), (LT, 2, 3), (AND, 1, 3)]),
     ([(LOG, 1, 0, 7), (POP, 1, 0, 8), (POP, 0, 1, 9)], [(POP, 0, 1), (LOG, 1, 1), (POP, 1, 0), (LOG, 1, 0), (LOG, 1, 1)]),
     ([], [(SPLIT, 0, 0), (LT, 0, 0), (AND, 0, 0), (POP, 0, 0), (POW, 0, 0), (SPLIT, 0, 0), (POW, 0, 0), (AND, 0, 0)]),
 ]
@@ -91,6 +92,7 @@ def heights(oracle):
             entries = [(opcode, lhs, EDGES[(7 * i + opcode) % len(EDGES)], TOP)]
             plan(oracle, entries)
     plan(oracle, [(POW, P - 1, TOP, 0)])
+    plan(oracle, [(AND, 3, 1, TOP + 1), (LT, 2, 3, P - 1)])
     for n in (1, 2, 5, len(KEYS)):
         plan(oracle, [key + (n,) for key in KEYS[:n]])
 

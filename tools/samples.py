@@ -25,12 +25,13 @@ def height(key):
     return (rhs if opcode == POW else max(lhs, rhs)).bit_length() + 1
 
 
-def stored(challenges, entries):
+def stored(challenges, entries, width=8):
+    """The input of u32list. A multiplicity takes eight bytes, or four in lists of the old length."""
     out = b"".join(word.to_bytes(8, "little") for word in challenges)
     out += len(entries).to_bytes(4, "little") + sum(map(height, entries)).to_bytes(4, "little")
     for opcode, lhs, rhs in entries:
         out += bytes([opcode]) + lhs.to_bytes(8, "little") + rhs.to_bytes(8, "little")
-    return out + b"".join(count.to_bytes(4, "little") for count in entries.values())
+    return out + b"".join(count.to_bytes(width, "little") for count in entries.values())
 
 
 # ---- the table
@@ -111,9 +112,11 @@ def last_sum(challenges, rows):
 
 
 def text(challenges, entries):
-    """What u32list prints for an admitted list that is stored whole."""
+    """What u32list prints for a list of admitted entries that is stored whole."""
     if len(entries) > 2048:
         return "refused 10\n"
+    if max(entries.values(), default=0) >= P:
+        return "refused 5\n"
     rows, table = padded_table(entries)
     if len(table) > 512:
         return "refused 7\n"
@@ -165,13 +168,22 @@ def different(count):
 
 def samples():
     yield "example", PLAIN, {(AND, 3, 1): 2}
+    yield "count-past-four-bytes", PLAIN, {(AND, 3, 1): 2**32 + 2}
+    yield "count-at-the-limit", PLAIN, {(AND, 3, 1): P - 1}
+    yield "count-above-it", PLAIN, {(AND, 3, 1): P}
     yield "a-200-samples", drawn(200), second(200, 25)
     yield "a-400-samples", drawn(400), second(400, 37)
     yield "a-400-samples-at-the-limit", drawn(400), filled_up(second(400, 37), 512)
     yield "a-400-samples-above-it", drawn(400), filled_up(second(400, 37), 513)
+    yield "a-full-list-new-length", drawn(2048), different(2048)
+    yield "b-last-lt-0-0", drawn(2), {(AND, 6, 3): 1, (LT, 2, 3): 4, (POP, 3, 0): 2, (LT, 0, 0): 1}
+
+
+def old_samples():
+    """Lists of the old length: they are read, and print what they printed."""
+    yield "example-old-length", PLAIN, {(AND, 3, 1): 2}
     yield "a-full-list", drawn(2048), different(2048)
     yield "a-one-entry-too-many", drawn(2048), different(2049)
-    yield "b-last-lt-0-0", drawn(2), {(AND, 6, 3): 1, (LT, 2, 3): 4, (POP, 3, 0): 2, (LT, 0, 0): 1}
 
 
 def tables():
@@ -196,12 +208,13 @@ def tables():
 def main():
     folder = pathlib.Path(sys.argv[1])
     (folder / "tables").mkdir(parents=True, exist_ok=True)
-    for name, challenges, entries in samples():
-        (folder / f"{name}.bin").write_bytes(stored(challenges, entries))
-        (folder / f"{name}.txt").write_text(text(challenges, entries))
-    full = (folder / "a-full-list.bin").read_bytes()
-    (folder / "a-one-byte-too-many.bin").write_bytes(full + b"\0")
-    (folder / "a-one-byte-too-many.txt").write_text("refused 10\n")
+    for width, lists in (8, samples()), (4, old_samples()):
+        for name, challenges, entries in lists:
+            (folder / f"{name}.bin").write_bytes(stored(challenges, entries, width))
+            (folder / f"{name}.txt").write_text(text(challenges, entries))
+    for name, longer in ("a-full-list", "a-one-byte-too-many"), ("a-full-list-new-length", "a-one-byte-too-many-new-length"):
+        (folder / f"{longer}.bin").write_bytes((folder / f"{name}.bin").read_bytes() + b"\0")
+        (folder / f"{longer}.txt").write_text("refused 10\n")
     for name, challenges, table in tables():
         lines = ["challenges " + " ".join(map(str, challenges)), f"rows {len(table)}", *(" ".join(map(str, r)) for r in table)]
         (folder / "tables" / f"{name}.table").write_text("\n".join(lines) + "\n")

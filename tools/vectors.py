@@ -2,14 +2,15 @@
 """Turns stored vectors into the number files that the vectors_* programs run.
 
     tools/vectors.py CALLS.jsonl field > crates/vectors_field/stdin
-    tools/vectors.py CALLS.jsonl lists tests/vectors/request-04.jsonl tests/vectors/recorded-lists.jsonl > crates/vectors_lists/stdin
+    tools/vectors.py CALLS.jsonl lists tests/vectors/request-09.jsonl tests/vectors/recorded-lists.jsonl > crates/vectors_lists/stdin
     tools/vectors.py CALLS.jsonl tables tests/vectors/filled-tables.jsonl > crates/vectors_table/stdin
     tools/vectors.py CALLS.jsonl checks tests/vectors/named-tables.jsonl > crates/vectors_check/stdin
 
 CALLS.jsonl has single calls of document 01 with their answer and every array after the call, one JSON object a line. Further files of the
-same form are read after it: request-NN.jsonl has calls as change request NN has them, and the calls of CALLS.jsonl that the request answers
+same form are read after it: request-NN.jsonl has calls as change request NN has them, and the calls of CALLS.jsonl that a request answers
 otherwise are left out; the others in tests/vectors have the original Rust's answers (tools/filled_tables.py, tools/named_tables.py and
-tools/recorded_lists.py make them). What the vectors leave out, and edges, are added here; their answers are computed by the few lines of
+tools/recorded_lists.py make them). request-09.jsonl has those calls of the request's file that take at most 6,000 characters, and the shortest one of
+each call and answer that would have none. What the vectors leave out, and edges, are added here; their answers are computed by the few lines of
 arithmetic below, which share nothing with the library. A number file is decimal numbers; the first of each line is the kind of the line.
 """
 import json
@@ -117,7 +118,15 @@ def ints(words):
     return [int(w) for w in words]
 
 
+# The programs have buffers of 64 words for a list's arrays and of 512 bytes; what is longer would be cut there.
+def some_bytes(digits):
+    data = list(bytes.fromhex(digits))
+    assert len(data) <= 512
+    return array(data)
+
+
 def a_list(numbers):
+    assert max(len(numbers["keys"]), len(numbers["mults"])) <= 64
     return [int(numbers["capacity"]), int(numbers["used"])] + array(ints(numbers["keys"])) + array(ints(numbers["mults"]))
 
 
@@ -148,10 +157,9 @@ def list_line(call):
     if which == "plan":
         line(3, a_list(numbers), answer_of(call, 2))
     if which == "read":
-        data = list(bytes.fromhex(numbers["bytes"]))
-        line(4, a_list(numbers), array(data), answer_of(call, 1), after_list(after))
+        line(4, a_list(numbers), some_bytes(numbers["bytes"]), answer_of(call, 1), after_list(after))
     if which == "write":
-        line(5, a_list(numbers), array(list(bytes.fromhex(numbers["out"]))), answer_of(call, 1), list(bytes.fromhex(after["out"])))
+        line(5, a_list(numbers), some_bytes(numbers["out"]), answer_of(call, 1), list(bytes.fromhex(after["out"])))
 
 
 # A recording that is refused changes nothing.
@@ -165,6 +173,81 @@ def recorded(position, capacity, used, keys, mults, entry, keys_after, mults_aft
 
 def planned(capacity, used, keys, mults, answer):
     line(3, [capacity, used], array(keys), array(mults), answer)
+
+
+# A stored list: entries with their multiplicities, each of eight bytes or of four
+def stored(entries, width=8):
+    heights = [(key[2] if key[0] == 30 else max(key[1:])).bit_length() + 1 for key, _ in entries]
+    numbers = [(len(entries), 4), (sum(heights), 4)]
+    numbers += [pair for (opcode, lhs, rhs), _ in entries for pair in ((opcode, 1), (lhs, 8), (rhs, 8))]
+    numbers += [(count, width) for _, count in entries]
+    return [byte for number, size in numbers for byte in number.to_bytes(size, "little")]
+
+
+# Reading onto `capacity` unused places, which hold 9: the entries that are read, or the number of the refusal
+def reading(data, capacity, due):
+    entries = due if isinstance(due, list) else []
+    keys = [word for key, _ in entries for word in key]
+    counts = [count for _, count in entries]
+    answer = [0, len(entries)] if isinstance(due, list) else [due, 0]
+    after = [capacity, len(entries)], keys + [9] * (3 * capacity - len(keys)), counts + [9] * (capacity - len(counts))
+    line(4, [capacity, 0], array([9] * 3 * capacity), array([9] * capacity), array(data), answer, *after)
+
+
+# Writing to so many bytes, which hold 9: all of the list, or the number of the refusal
+def writing(entries, room, refusal=0):
+    keys = [word for key, _ in entries for word in key]
+    data = [] if refusal else stored(entries)
+    after = data + [9] * (room - len(data))
+    line(5, [len(entries)] * 2, array(keys), array([count for _, count in entries]), array([9] * room), [refusal, len(data)], after)
+
+
+def stored_edges():
+    fine, other = [14, 3, 1], [6, 2, 3]
+    # the length tells the form
+    new = stored([(fine, 2)])
+    for length in range(35):
+        reading((new + [0] * 2)[:length], 1, [(fine, 2)] if length in (29, 33) else 10)
+    reading([0] * 8, 0, [])
+    reading([0] * 8, 1, [])
+    # multiplicities at the limits of both forms
+    for count in (0, 1, 2**32 - 1, 2**32, P - 1, P, 2**64 - 1):
+        reading(stored([(fine, count)]), 1, [(fine, count)] if count < P else 5)
+        if count < 2**32:
+            reading(stored([(fine, count)], 4), 1, [(fine, count)])
+    # 5 after 4, entry by entry; then 11, 12
+    for entries, due in [
+        ([(fine, P), ([5, 0, 0], 1)], 5),
+        ([([5, 0, 0], 1), (fine, P)], 2),
+        ([(fine, P), ([6, 2**32, 0], 1)], 5),
+        ([([6, 2**32, 0], P), (fine, 1)], 3),
+        ([([12, 0, 0], P), (fine, 1)], 4),
+        ([(fine, 1), (fine, P)], 5),
+        ([(fine, 1), (fine, P - 1)], 11),
+        ([(fine, P), (fine, 1)], 5),
+    ]:
+        reading(stored(entries), 2, due)
+        reading(stored(entries), 1, 6)
+    other_height = stored([(fine, P)])
+    other_height[4] += 1
+    reading(other_height, 1, 5)
+    reading(other_height[:25] + list((P - 1).to_bytes(8, "little")), 1, 12)
+    reading(other_height[:29], 1, 12)
+    # a list of the new length, cut to the old one
+    reading(stored([(fine, 2**32 + 2)])[:29], 1, [(fine, 2)])
+    reading(stored([(fine, 7 * 2**32 + 2), (other, 5)])[:50], 2, [(fine, 2), (other, 7)])
+    # writing
+    for count in (0, 2**32 - 1, 2**32, P - 1):
+        for room in (33, 40):
+            writing([(fine, count)], room)
+        for room in (29, 32):
+            writing([(fine, count)], room, 7)
+    for count in (P, 2**64 - 1):
+        writing([(fine, count)], 33, 5)
+        writing([(fine, count), ([5, 0, 0], 1)], 58, 5)
+    writing([([12, 0, 5], P)], 33, 4)
+    writing([], 8)
+    writing([], 7, 7)
 
 
 def list_edges():
@@ -204,30 +287,32 @@ def list_edges():
     for opcode in (0, 1, 3, 5, 7, 13, 15, 29, 31, 4 + 2**32, P + 4, 2**64 - 1):
         refused_recording(2, 2, 0, *empty, [opcode, 2**32, 0])
     # a full list, a known key on it, a full count, a key that only an unused place holds
-    keys, mults = [6, 1, 2, 14, 3, 4], [7, 2**32 - 2]
+    keys, mults = [6, 1, 2, 14, 3, 4], [7, 2**32 - 1]
     refused_recording(6, 2, 2, keys, mults, [6, 2, 1])
-    recorded(1, 2, 2, keys, mults, [14, 3, 4], keys, [7, 2**32 - 1], 2)
-    refused_recording(5, 2, 2, keys, [7, 2**32 - 1], [14, 3, 4])
-    refused_recording(5, 2, 2, keys, [7, 2**64 - 1], [14, 3, 4])
+    for count in (0, 2**32 - 2, 2**32 - 1, 2**32, P - 2):
+        recorded(1, 2, 2, keys, [7, count], [14, 3, 4], keys, [7, count + 1], 2)
+    for count in (P - 1, P, 2**64 - 1):
+        refused_recording(5, 2, 2, keys, [7, count], [14, 3, 4])
     recorded(1, 2, 1, keys, mults, [14, 3, 4], keys, [7, 1], 2)
     # document 01's heights, whose padded height is the least; then padded heights around powers of two: sections of 33 rows and a shorter one
     for entry, height in [([14, 0, 0], 1), ([14, 1, 0], 2), ([6, 2**32 - 1, 0], 33), ([30, P - 1, 0], 1), ([30, 5, 7], 4)]:
         planned(1, 1, entry, [0], [0, height, 256])
     planned(0, 0, [], [], [0, 0, 256])
-    planned(1, 1, [6, 1, 2], [2**32 - 1], [0, 3, 256])
+    for count in (2**32 - 1, 2**32, P - 1):
+        planned(1, 1, [6, 1, 2], [count], [0, 3, 256])
     for height, padded in [(255, 256), (256, 256), (257, 512), (512, 512), (513, 1024)]:
         keys = [w for i in range(height // 33) for w in (6, 2**32 - 1 - i, 0)] + [14, 2 ** (height % 33 - 2), 0]
         n = len(keys) // 3
         planned(n, n, keys, [1] * n, [0, height, padded])
-    planned(1, 1, [6, 1, 2], [2**32], [5, 0, 0])
-    # write 4
-    line(5, [1, 1], array([12, 0, 5]), array([1]), array([9] * 29), [4, 0], [9] * 29)
+    for count in (P, 2**64 - 1):
+        planned(1, 1, [6, 1, 2], [count], [5, 0, 0])
 
 
 def lists(calls):
     for call in calls:
         list_line(call)
     list_edges()
+    stored_edges()
 
 
 # ---- tables
@@ -278,8 +363,25 @@ def tables(calls):
 
 
 def changed(call):
-    """Whether a change request answers a call of document 01 otherwise. Request 4: a padded height is at least 256."""
-    return call["call"] == "plan" and call["answer"][0] == "ok" and int(call["answer"][1][1]) < 256
+    """Whether a change request answers a call of document 01 otherwise."""
+    which, numbers, (kind, value) = call["call"], call["in"], call["answer"]
+    # request 4: a padded height is at least 256
+    if which == "plan" and kind == "ok":
+        return int(value[1]) < 256
+    # request 9: the limit of multiplicities is p - 1. In recording the first equal key's counts, else that of each used place
+    if kind == "refused" and int(value) == 5:
+        keys, counts = ints(numbers["keys"]), ints(numbers["mults"])
+        places = range(int(numbers["used"]))
+        if which == "record":
+            return next(counts[i] for i in places if keys[3 * i : 3 * i + 3] == ints(numbers["entry"])) < P - 1
+        return max(counts[i] for i in places) < P
+    # .. a list of N entries is written to 8 + 25 N bytes, and read from as many
+    if which == "write" and kind == "ok":
+        return int(value) != 8
+    if which == "read" and kind == "refused" and int(value) == 10:
+        data = bytes.fromhex(numbers["bytes"])
+        return len(data) >= 8 and len(data) == 8 + 25 * int.from_bytes(data[:4], "little")
+    return False
 
 
 WHICH = {"field": field, "lists": lists, "checks": checks, "tables": tables}

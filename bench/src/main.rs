@@ -261,9 +261,9 @@ impl Inputs {
         let [tree] = best(1, [&mut || assert!(constraints.verdict(rows_of, aux_of, &self.challenges).is_none())]);
         line("check, stand-in (walks a tree)", [ours, tree]);
 
-        let mut bytes = vec![0; 8 + 21 * n];
+        let mut bytes = vec![0; 8 + 25 * n];
         let mut fresh = list.clone();
-        let [write] = best(runs, [&mut || assert_eq!(8 + 21 * n, port::write(&list, &mut bytes))]);
+        let [write] = best(runs, [&mut || assert_eq!(8 + 25 * n, port::write(&list, &mut bytes))]);
         let [read] = best(runs, [&mut || assert_eq!(n, port::read(&bytes, &mut fresh))]);
         let [plan] = best(runs, [&mut || assert_eq!([height, rows], port::plan(&list))]);
         println!("write | {:.3} | |\nread | {:.3} | |\nplan | {:.4} | |", write * 1e3, read * 1e3, plan * 1e3);
@@ -305,13 +305,13 @@ impl Inputs {
     fn grow(&self, runs: usize, n: usize, rows: usize) {
         let list = self.list(n);
         let (mut table, mut aux) = (vec![0; 10 * rows], vec![0; 3 * rows]);
-        let mut bytes = vec![0; 8 + 21 * n];
+        let mut bytes = vec![0; 8 + 25 * n];
         let mut height = 0;
         let [fill] = best(runs, [&mut || height = port::fill(&list, &mut table)]);
         let [pad] = best(runs, [&mut || port::pad(&mut table, height)]);
         let [extend] = best(runs, [&mut || port::extend(&table, &mut aux, &self.challenges)]);
         let [check] = best(runs, [&mut || assert!(port::check(&table, &aux, &self.challenges))]);
-        let [write] = best(runs, [&mut || assert_eq!(8 + 21 * n, port::write(&list, &mut bytes))]);
+        let [write] = best(runs, [&mut || assert_eq!(8 + 25 * n, port::write(&list, &mut bytes))]);
         let mut fresh = list.clone();
         let [read] = best(runs, [&mut || assert_eq!(n, port::read(&bytes, &mut fresh))]);
         let ms = [fill, pad, extend, check, read, write].map(|seconds| format!("{:.3}", seconds * 1e3)).join(" | ");

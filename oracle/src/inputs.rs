@@ -56,9 +56,10 @@ impl Random {
         [opcode, lhs, self.operand()]
     }
 
-    /// An admitted entry, with a multiplicity from 0 to 2^32 - 1.
+    /// An admitted entry, with a multiplicity from 0 to p - 1.
     pub fn entry(&mut self) -> Entry {
-        Entry { key: self.key(), multiplicity: self.operand() }
+        let multiplicity = if self.below(2) == 0 { self.operand() } else { self.element() };
+        Entry { key: self.key(), multiplicity }
     }
 
     /// An admitted list of at most `most` entries; in every third or so, keys are repeated.

@@ -6,7 +6,8 @@ use std::path::Path;
 
 use crate::*;
 
-/// The challenges and the list in the input of `u32list`; none if the bytes are too few. It refuses nothing else.
+/// The challenges and the list in the input of `u32list`, whose length tells how many bytes a multiplicity has; none if the bytes are too few.
+/// It refuses nothing else.
 pub fn read_input(bytes: &[u8]) -> Option<(Challenges, Vec<Entry>)> {
     let number = |start: usize, length: usize| {
         let digits = bytes.get(start..start + length)?.iter().rev();
@@ -17,9 +18,10 @@ pub fn read_input(bytes: &[u8]) -> Option<(Challenges, Vec<Entry>)> {
         *word = number(8 * i, 8)?;
     }
     let n = number(120, 4)? as usize;
+    let width = if bytes.len() == 128 + 21 * n { 4 } else { 8 };
     let entry_at = |i| {
-        let (key, multiplicity) = (128 + 17 * i, 128 + 17 * n + 4 * i);
-        Some(entry(number(key, 1)?, number(key + 1, 8)?, number(key + 9, 8)?, number(multiplicity, 4)?))
+        let (key, multiplicity) = (128 + 17 * i, 128 + 17 * n + width * i);
+        Some(entry(number(key, 1)?, number(key + 1, 8)?, number(key + 9, 8)?, number(multiplicity, width)?))
     };
     Some((challenges, (0..n).map(entry_at).collect::<Option<_>>()?))
 }

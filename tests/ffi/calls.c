@@ -99,8 +99,11 @@ static void lists(void) {
     REFUSED(record(2, U32_TABLE_LOG_2_FLOOR, 0, pow2_32), U32_TABLE_WIDE);
     REFUSED(record(2, U32_TABLE_POW, U32_TABLE_P, 0), U32_TABLE_WIDE);
     REFUSED(record(2, U32_TABLE_LOG_2_FLOOR, 0, 0), U32_TABLE_BARE_LOG);
-    multiplicities[1] = pow2_32 - 1;
+    multiplicities[1] = U32_TABLE_P - 1;
     REFUSED(record(2, U32_TABLE_LT, 2, 3), U32_TABLE_COUNT_FULL);
+    multiplicities[1] = pow2_32 - 1;
+    DONE(record(2, U32_TABLE_LT, 2, 3), 2, 1, 2);
+    expect("past 32 bits", multiplicities[1], pow2_32);
     multiplicities[1] = 1;
     DONE(record(2, U32_TABLE_POW, U32_TABLE_P - 1, 5), 2, 2, 3);
     DONE(record(3, U32_TABLE_POP_COUNT, pow2_32 - 1, 0), 2, 3, 4);
@@ -123,21 +126,21 @@ static void lists(void) {
     REFUSED(plan(2), U32_TABLE_WIDE);
     keys[3] = 12, keys[4] = 0;
     REFUSED(plan(2), U32_TABLE_BARE_LOG);
-    keys[3] = 6, keys[4] = 2, multiplicities[1] = pow2_32;
+    keys[3] = 6, keys[4] = 2, multiplicities[1] = U32_TABLE_P;
     REFUSED(plan(2), U32_TABLE_COUNT_FULL);
     multiplicities[1] = 1;
 
-    /* writing: 8 + 21 N bytes, and the rest is untouched */
+    /* writing: 8 + 25 N bytes, and the rest is untouched */
     memset(bytes, MARK, sizeof bytes);
     DONE(write(4, sizeof bytes), 1, U32_TABLE_STORED_BYTES(4));
     expect("entries and height", bytes[0] == 4 && bytes[4] == 43 && (bytes[1] | bytes[2] | bytes[3] | bytes[5]) == 0, 1);
     expect("first key", bytes[8] == 14 && bytes[9] == 3 && bytes[17] == 1, 1);
     expect("first multiplicity", bytes[8 + 17 * 4], 2);
-    expect("bytes past the end", bytes[8 + 21 * 4], MARK);
+    expect("bytes past the end", bytes[8 + 25 * 4], MARK);
     REFUSED(write(5, sizeof bytes), U32_TABLE_SHAPE);
     REFUSED(u32_table_write(PLACES, 4, keys, 3 * PLACES, multiplicities, PLACES, bytes, sizeof bytes, answers, 0), U32_TABLE_SHAPE);
     REFUSED(write(4, U32_TABLE_STORED_BYTES(4) - 1), U32_TABLE_SHORT);
-    multiplicities[0] = pow2_32;
+    multiplicities[0] = U32_TABLE_P;
     REFUSED(write(4, sizeof bytes), U32_TABLE_COUNT_FULL);
     multiplicities[0] = 2;
     put(3, 14, 3, 1, 1);
@@ -150,22 +153,36 @@ static void lists(void) {
     DONE(read(U32_TABLE_STORED_BYTES(3)), 1, 3);
     expect("read", keys[0] == 14 && keys[1] == 3 && keys[6] == 30 && keys[7] == U32_TABLE_P - 1 && multiplicities[0] == 2, 1);
     expect("places past N", keys[9] == MARK && multiplicities[3] == MARK, 1);
-    REFUSED(u32_table_read(bytes, 71, PLACES, 5, keys, 3 * PLACES, multiplicities, PLACES, answers, WORDS), U32_TABLE_SHAPE);
-    REFUSED(u32_table_read(bytes, 71, PLACES, 0, keys, 3 * PLACES, multiplicities, PLACES, answers, 0), U32_TABLE_SHAPE);
-    REFUSED(read(70), U32_TABLE_TORN);
-    REFUSED(u32_table_read(bytes, 71, 2, 0, keys, 6, multiplicities, 2, answers, WORDS), U32_TABLE_LIST_FULL);
+    const size_t full = U32_TABLE_STORED_BYTES(3), old = 8 + 21 * 3;
+    REFUSED(u32_table_read(bytes, full, PLACES, 5, keys, 3 * PLACES, multiplicities, PLACES, answers, WORDS), U32_TABLE_SHAPE);
+    REFUSED(u32_table_read(bytes, full, PLACES, 0, keys, 3 * PLACES, multiplicities, PLACES, answers, 0), U32_TABLE_SHAPE);
+    REFUSED(read(full - 1), U32_TABLE_TORN);
+    REFUSED(u32_table_read(bytes, full, 2, 0, keys, 6, multiplicities, 2, answers, WORDS), U32_TABLE_LIST_FULL);
     bytes[8] = 5;
-    REFUSED(read(71), U32_TABLE_STRANGER);
+    REFUSED(read(full), U32_TABLE_STRANGER);
     bytes[8] = 14, bytes[9 + 7] = 1;
-    REFUSED(read(71), U32_TABLE_WIDE);
+    REFUSED(read(full), U32_TABLE_WIDE);
     bytes[9 + 7] = 0, bytes[8] = 12, bytes[9] = 0;
-    REFUSED(read(71), U32_TABLE_BARE_LOG);
+    REFUSED(read(full), U32_TABLE_BARE_LOG);
     bytes[8] = 6, bytes[9] = 2, bytes[17] = 3;
-    REFUSED(read(71), U32_TABLE_REPEAT);
+    REFUSED(read(full), U32_TABLE_REPEAT);
     bytes[8] = 14, bytes[9] = 3, bytes[17] = 1, bytes[4] ^= 1;
-    REFUSED(read(71), U32_TABLE_TALLY);
-    bytes[4] ^= 1;
-    DONE(read(71), 1, 3);
+    REFUSED(read(full), U32_TABLE_TALLY);
+
+    /* a multiplicity of p: after BARE_LOG, before the next entry, REPEAT and TALLY */
+    uint8_t *count = bytes + 8 + 17 * 3;
+    count[0] = 1, memset(count + 4, 255, 4), bytes[8 + 17] = 5;
+    REFUSED(read(full), U32_TABLE_COUNT_FULL);
+    bytes[8 + 17] = 6, count[0] = 0, bytes[4] ^= 1;
+    DONE(read(full), 1, 3);
+    expect("a multiplicity of p - 1", multiplicities[0], U32_TABLE_P - 1);
+
+    /* the old length: multiplicities of 4 bytes; a list of the new length that was cut to it is read so too */
+    REFUSED(read(old - 1), U32_TABLE_TORN);
+    REFUSED(read(old + 1), U32_TABLE_TORN);
+    DONE(read(old), 1, 3);
+    expect("halves", multiplicities[0] == 0 && multiplicities[1] == pow2_32 - 1 && multiplicities[2] == 1, 1);
+    DONE(write(3, sizeof bytes), 1, full);
 }
 
 static void tables(void) {
@@ -185,7 +202,7 @@ static void tables(void) {
     REFUSED(fill(4, 16), U32_TABLE_WIDE);
     keys[5] = 3, keys[9] = 12;
     REFUSED(fill(4, 16), U32_TABLE_BARE_LOG);
-    keys[9] = 6, multiplicities[3] = UINT64_C(1) << 32;
+    keys[9] = 6, multiplicities[3] = U32_TABLE_P;
     REFUSED(fill(4, 16), U32_TABLE_COUNT_FULL);
     multiplicities[3] = 1;
     REFUSED(fill(4, 10), U32_TABLE_SHORT);

@@ -191,7 +191,38 @@ pub fn plan(sizes: Sizes, keys: &[u64], multiplicities: &[u64]) -> Result<Plan, 
 /// Reads a stored list of N entries: they replace the first N places, `sizes.used` becomes N, and the answer is N. Later places keep their
 /// words.
 ///
-/// Refusals, in this order: shape; torn; list full; then entry by entry stranger, wide, bare log; repeat; tally.
+/// The length of `bytes` tells the form: [`stored_bytes`](crate::stored_bytes) of N, as [`write()`] writes it, or the old length 8 + 21 N, with
+/// multiplicities of four bytes. A list that was read from the old form is written in the new one.
+///
+/// ```
+/// use u32_table::{opcodes::AND, read, write, Sizes};
+/// let old = [&[1, 0, 0, 0, 3, 0, 0, 0, 14, 3, 0, 0, 0, 0, 0, 0, 0, 1, 0, 0, 0, 0, 0, 0, 0][..], &[2, 0, 0, 0]].concat();
+/// let (mut sizes, mut keys, mut multiplicities) = (Sizes { capacity: 1, used: 0 }, [0; 3], [0]);
+/// assert_eq!(read(&old, &mut sizes, &mut keys, &mut multiplicities), Ok(1));
+/// assert_eq!((keys, multiplicities), ([AND, 3, 1], [2]));
+///
+/// let mut new = [0; 33];
+/// assert_eq!(write(sizes, &keys, &multiplicities, &mut new), Ok(33));
+/// assert_eq!(new[..], [&old[..], &[0; 4]].concat());
+/// ```
+///
+/// # Keep the length
+///
+/// Whoever stores lists must keep their length too. A list of the new length that is cut by exactly 4 N bytes has the old length and is accepted:
+/// its multiplicities are then the first N halves, of four bytes, of those that were stored. No refusal tells: tally looks at the keys alone. For
+/// example `and 3, 1` with multiplicity 2^32 + 2, 33 bytes, cut to 29 is read with multiplicity 2. Software that knows the old form alone
+/// refuses lists of the new length with torn.
+///
+/// ```
+/// # use u32_table::{opcodes::AND, read, write, Sizes};
+/// let (mut sizes, mut keys, mut multiplicities) = (Sizes { capacity: 1, used: 1 }, [AND, 3, 1], [(1 << 32) + 2]);
+/// let mut bytes = [0; 33];
+/// assert_eq!(write(sizes, &keys, &multiplicities, &mut bytes), Ok(33));
+/// assert_eq!(read(&bytes[..29], &mut sizes, &mut keys, &mut multiplicities), Ok(1));
+/// assert_eq!(multiplicities, [2]);
+/// ```
+///
+/// Refusals, in this order: shape; torn; list full; then entry by entry stranger, wide, bare log, count full; repeat; tally.
 pub fn read(bytes: &[u8], sizes: &mut Sizes, keys: &mut [u64], multiplicities: &mut [u64]) -> Result<usize, Refusal> {
     let mut answers = [0];
     done(sys::read(bytes, sizes.numbers(), keys, multiplicities, &mut answers))?;

@@ -72,13 +72,13 @@ pub const AUX_COLUMNS: usize = 3;
 /// Challenge words: Indeterminate, LhsWeight, RhsWeight, CiWeight and ResultWeight, three words each.
 pub const CHALLENGE_WORDS: usize = 15;
 
-/// The bytes that a stored list of so many entries takes.
+/// The bytes that a stored list of so many entries takes. Lists of the old length, with 21 bytes an entry, are still read; see [`read`].
 ///
 /// ```
-/// assert_eq!(u32_table::stored_bytes(2048), 43016);
+/// assert_eq!(u32_table::stored_bytes(2048), 51208);
 /// ```
 pub const fn stored_bytes(entries: usize) -> usize {
-    8 + 21 * entries
+    8 + 25 * entries
 }
 
 /// The six opcodes.

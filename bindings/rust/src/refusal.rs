@@ -15,7 +15,7 @@ pub enum Refusal {
     Wide,
     /// log_2_floor of 0.
     BareLog,
-    /// A multiplicity above 2^32 − 1; in recording, the first equal key's, if one more would pass that.
+    /// A multiplicity above [`P`](crate::P) − 1; in recording, the first equal key's, if one more would pass that.
     CountFull,
     /// A new key and no unused place; in reading, more entries than places.
     ListFull,
@@ -25,7 +25,7 @@ pub enum Refusal {
     Unreduced,
     /// A row with CopyFlag 1 whose denominator is (0, 0, 0): U32Indeterminate equals its compressed row. See [`extend`](crate::extend).
     Flat,
-    /// Stored bytes of the wrong length, or more than [`MAX_PLACES`](crate::MAX_PLACES) entries in them.
+    /// Stored bytes of neither of the two lengths, or more than [`MAX_PLACES`](crate::MAX_PLACES) entries in them; see [`read`](crate::read).
     Torn,
     /// Equal keys in stored bytes, or in a list to be written.
     Repeat,

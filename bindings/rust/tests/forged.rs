@@ -114,9 +114,12 @@ fn damaged_bytes_are_refused_or_are_another_list() {
         }
     }
     assert!(refused > 500 && read > 500, "{refused} refused, {read} read");
-    for length in 0..bytes.len() {
+    // cut: torn, but for the old length, where it is another list
+    let old_length = 8 + 21 * list.len();
+    for length in (0..bytes.len()).filter(|length| *length != old_length) {
         assert_eq!(List::from_bytes(&bytes[..length], 2048).unwrap_err(), Refusal::Torn);
     }
+    assert_ne!(List::from_bytes(&bytes[..old_length], 2048).unwrap(), list);
 }
 
 #[test]

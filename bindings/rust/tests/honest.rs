@@ -135,7 +135,7 @@ fn edges() {
     for i in 0..2048 {
         assert_eq!(list.record(Entry::new(AND, i, 0)), Ok(i as usize));
     }
-    assert_eq!(list.to_bytes().unwrap().len(), 43016);
+    assert_eq!(list.to_bytes().unwrap().len(), 51208);
 }
 
 #[test]

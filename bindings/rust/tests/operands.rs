@@ -6,8 +6,8 @@ use u32_table::opcodes::{AND, POW};
 use u32_table::{read, Entry, Refusal, Sizes, P};
 use Refusal::*;
 
-/// The bytes of a stored list of these entries: opcode, LHS and RHS each, all with this multiplicity.
-fn stored(entries: &[(u8, [u8; 8], [u8; 8])], height: usize, multiplicity: [u8; 4]) -> Vec<u8> {
+/// The bytes of a stored list of these entries: opcode, LHS and RHS each, all with this multiplicity, of four bytes or of eight.
+fn stored(entries: &[(u8, [u8; 8], [u8; 8])], height: usize, multiplicity: &[u8]) -> Vec<u8> {
     let mut bytes = [(entries.len() as u32).to_le_bytes(), (height as u32).to_le_bytes()].concat();
     for (opcode, left, right) in entries {
         bytes.push(*opcode);
@@ -33,10 +33,15 @@ fn keys_read(bytes: &[u8], n: usize, multiplicity: u64) -> Result<Vec<u64>, Refu
 fn left_operand(left: [u8; 8], others: u8) -> Result<u64, Refusal> {
     let right = [others, others, others, others, 0, 0, 0, 0];
     let exponent = u64::from(u32::from_le_bytes([others; 4]));
-    let bytes = stored(&[(POW as u8, left, right)], height(Entry::new(POW, 0, exponent)), [others; 4]);
-    let keys = keys_read(&bytes, 1, exponent)?;
-    assert_eq!((keys[0], keys[2]), (POW, exponent));
-    Ok(keys[1])
+    let read = |multiplicity: &[u8]| {
+        let bytes = stored(&[(POW as u8, left, right)], height(Entry::new(POW, 0, exponent)), multiplicity);
+        let keys = keys_read(&bytes, 1, exponent)?;
+        assert_eq!((keys[0], keys[2]), (POW, exponent));
+        Ok(keys[1])
+    };
+    let (old, new) = (read(&[others; 4]), read(&right));
+    assert_eq!(old, new);
+    new
 }
 
 #[test]
@@ -88,10 +93,12 @@ fn right_operands() {
         ([0, 0, 0, 0, 0, 0, 0, 1], Err(Wide)),
     ];
     for (right, due) in cases {
-        // p − 1 stands before it, and a multiplicity of 2^32 − 1 after it
+        // p − 1 stands before it, and the largest multiplicity of each width after it
         let left = (P - 1).to_le_bytes();
-        let bytes = stored(&[(POW as u8, left, right)], height(Entry::new(POW, 0, due.unwrap_or(0))), [255; 4]);
-        assert_eq!(keys_read(&bytes, 1, 4294967295), due.map(|word| vec![POW, P - 1, word]), "{right:?}");
+        for (count, multiplicity) in [(&[255; 4][..], 4294967295), (&left, P - 1)] {
+            let bytes = stored(&[(POW as u8, left, right)], height(Entry::new(POW, 0, due.unwrap_or(0))), count);
+            assert_eq!(keys_read(&bytes, 1, multiplicity), due.map(|word| vec![POW, P - 1, word]), "{right:?}");
+        }
     }
 }
 
@@ -107,7 +114,9 @@ fn at_every_place() {
         .collect();
     let keys: Vec<_> =
         entries.iter().map(|e| (e.opcode as u8, e.left_operand.to_le_bytes(), e.right_operand.to_le_bytes())).collect();
-    let bytes = stored(&keys, entries.iter().map(|e| height(*e)).sum(), [4, 3, 2, 1]);
     let due: Vec<u64> = entries.iter().flat_map(|e| [e.opcode, e.left_operand, e.right_operand]).collect();
-    assert_eq!(keys_read(&bytes, entries.len(), 16909060), Ok(due));
+    for (count, multiplicity) in [(&[4, 3, 2, 1][..], 16909060), (&[8, 7, 6, 5, 4, 3, 2, 1], 72623859790382856)] {
+        let bytes = stored(&keys, entries.iter().map(|e| height(*e)).sum(), count);
+        assert_eq!(keys_read(&bytes, entries.len(), multiplicity), Ok(due.clone()));
+    }
 }

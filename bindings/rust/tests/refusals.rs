@@ -10,6 +10,7 @@ use u32_table::{
 use Refusal::*;
 
 const WIDE: u64 = 1 << 32;
+const MOST_COUNT: u64 = P - 1;
 
 #[test]
 fn numbers_and_words() {
@@ -62,7 +63,7 @@ impl Lent {
 #[test]
 fn record_refuses() {
     let fine = lent(2, &[(AND, 3, 1, 2)]);
-    let full = lent(1, &[(AND, 3, 1, u64::from(u32::MAX))]);
+    let full = lent(1, &[(AND, 3, 1, MOST_COUNT)]);
     let shapes = {
         let mut bad = [fine.clone(), fine.clone(), fine.clone(), lent(2049, &[])];
         bad[0].sizes.used = 3;
@@ -93,10 +94,11 @@ fn record_refuses() {
 fn refused_lists() -> Vec<(Lent, Refusal)> {
     let fine = (AND, 3, 1, 1);
     let mut list = vec![
-        (lent(4, &[fine, (5, WIDE, 0, WIDE)]), Stranger),
-        (lent(4, &[fine, (SPLIT, WIDE, 0, WIDE)]), Wide),
-        (lent(4, &[fine, (LOG_2_FLOOR, 0, 0, WIDE)]), BareLog),
-        (lent(4, &[fine, (LT, 1, 1, WIDE), (5, 0, 0, 0)]), CountFull),
+        (lent(4, &[fine, (5, WIDE, 0, P)]), Stranger),
+        (lent(4, &[fine, (SPLIT, WIDE, 0, P)]), Wide),
+        (lent(4, &[fine, (LOG_2_FLOOR, 0, 0, P)]), BareLog),
+        (lent(4, &[fine, (LT, 1, 1, P), (5, 0, 0, 0)]), CountFull),
+        (lent(4, &[fine, (LT, 1, 1, u64::MAX), (5, 0, 0, 0)]), CountFull),
     ];
     let mut shape = lent(4, &[(5, 0, 0, 0)]);
     shape.keys.push(0);
@@ -121,9 +123,9 @@ fn plan_fill_and_write_refuse() {
     assert!(table.iter().all(|w| *w == 3));
     assert_eq!(repeated.fill(&mut table), Ok(7));
     assert_eq!(repeated.write(&mut []), Err(Repeat));
-    let mut out = [5; 50];
-    assert_eq!(lent(2, &[(AND, 3, 1, 1), (LT, 0, 0, 1)]).write(&mut out[..49]), Err(Short));
-    assert_eq!(out, [5; 50]);
+    let mut out = [5; 58];
+    assert_eq!(lent(2, &[(AND, 3, 1, 1), (LT, 0, 0, 1)]).write(&mut out[..57]), Err(Short));
+    assert_eq!(out, [5; 58]);
     // a table of no whole rows, and one of too many; before the entries
     let mut table = vec![3; (MAX_ROWS + 1) * COLUMNS];
     for words in [11, table.len()] {
@@ -140,18 +142,21 @@ fn read_refuses() {
         changes.iter().for_each(|(i, v)| b[*i] = *v);
         b
     };
-    let mut many = vec![0; 8 + 21 * 2049];
-    many[..2].copy_from_slice(&2049u16.to_le_bytes());
+    let many = |width: usize| [&2049u32.to_le_bytes()[..], &vec![0; 4 + width * 2049]].concat();
     let to = lent(2, &[]);
     let cases = [
         (lent(1, &[]), bytes[..49].to_vec(), Torn),
+        (lent(1, &[]), bytes[..51].to_vec(), Torn),
+        (lent(1, &[]), bytes[..57].to_vec(), Torn),
         (to.clone(), bytes[..7].to_vec(), Torn),
         (to.clone(), [bytes.clone(), vec![0]].concat(), Torn),
-        (lent(2048, &[]), many, Torn),
+        (lent(2048, &[]), many(21), Torn),
+        (lent(2048, &[]), many(25), Torn),
         (lent(1, &[]), with(&[(8, 5)]), ListFull),
         (to.clone(), with(&[(8, 5), (4, 0)]), Stranger),
         (to.clone(), with(&[(13, 1), (4, 0)]), Wide),
         (to.clone(), with(&[(8, 12), (9, 0), (4, 0)]), BareLog),
+        (to.clone(), with(&[(49, 255), (48, 255), (47, 255), (46, 255), (4, 0)]), CountFull),
         (to.clone(), with(&[(25, 14), (26, 3), (34, 1), (4, 0)]), Repeat),
         (to.clone(), with(&[(4, 7)]), Tally),
     ];

@@ -4,8 +4,9 @@
 --   used place are.
 --   height-more: one place more adds its entry's height where it gets a section; so a list that is judged fine has at most 33 rows for
 --   each used place (list-height-bound).
+--   limit-is: the limit of multiplicities is p − 1.
 -- Assumes nothing.
-use Prim.Native.Nat.{ℕ, zero, suc, _+_, _*_, _≤_, _<_}
+use Prim.Native.Nat.{ℕ, zero, suc, _+_, _*_, _-_, _≤_, _<_}
 use mathlib.Core.Path.{_≡_, refl, sym, ap, _∙_}
 use mathlib.Core.Bool.{Bool, true, false, not, _||_}
 use mathlib.Core.List.{List, [], _∷_, _++_, append-nil}
@@ -15,6 +16,7 @@ use native.Mathlib.Omega.{arith}
 use lib.Dec.{eqb, ltb}
 use lib.ListN.{length}
 use borrow.Author.Tests.{ltb-false, eqb-true, not-false, lt-ltb, le-ltb, eq-eqb}
+use Rattle.field.specs.Elements.{p}
 use Rattle.words.specs.Limits.{maxPlaces, multiplicityLimit}
 use Rattle.words.specs.Refusals.{firstReason}
 use Rattle.words.specs.declared.Judgement.{Judgement}
@@ -79,6 +81,10 @@ refused-told {e} {asked} at told is = rw (← at) (admit-refused asked (sym told
 
 -- ---- one place
 
+-- "The limit becomes p − 1"
+pub limit-is : multiplicityLimit ≡ p - 1
+limit-is = refl
+
 pub place-fine : (l : U32List) (i : ℕ) → judgeEntry (keyAt l i) ≡ Fine → multiplicityAt l i ≤ multiplicityLimit → judgePlace l i ≡ Fine
 unfolding judgePlace countFull
 place-fine l i e m = or-next _ e ∙ decline-false CountFull (le-ltb multiplicityLimit _ m)
@@ -94,7 +100,7 @@ place-full l i e m = or-next _ e ∙ decline-true CountFull (lt-ltb multiplicity
 
 -- ---- the list
 
--- "A list is admitted when its entries are and no multiplicity is above 2^32 − 1", and its shape is right
+-- "A list is admitted when its entries are and no multiplicity is above" the limit, and its shape is right
 pub record ListAdmitted (l : U32List) : Type 0 where
   pub shape : Shaped l
   pub entry : (i : ℕ) → i < used l → judgeEntry (keyAt l i) ≡ Fine

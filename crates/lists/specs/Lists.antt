@@ -47,7 +47,7 @@ listShape l =
     || (not (eqb (length (l .keys)) (3 * capacity l)) || not (eqb (length (l .multiplicities)) (capacity l)))))
     Shape
 
--- 5: "multiplicity above 2^32 − 1"
+-- 5: "multiplicity above" the limit, which is p − 1
 unfoldable pub countFull : ℕ → Bool
 countFull m = ltb multiplicityLimit m
 

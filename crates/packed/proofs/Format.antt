@@ -3,8 +3,9 @@
 -- bytes apart.
 use mathlib.Core.Path.{_≡_, refl, sym, ap, _∙_}
 use mathlib.Core.List.{List, _++_, flatMap}
-use Prim.Native.Nat.{ℕ, _+_, _*_, _≤_, _<_}
-use native.Mathlib.Nat.{zero-add, add-zero, add-assoc}
+use Prim.Native.Nat.{ℕ, suc, _+_, _*_, _^_, _≤_, _<_}
+use native.Mathlib.Nat.{zero-add, add-zero, add-assoc, mul-zero, mul-suc, mul-le-mul-left}
+use borrow.Author.Tests.{eq-eqb, ne-eqb}
 use native.Mathlib.Omega.{arith}
 use lib.ListN.{length, getD, take, drop, length-append}
 use lib.Seq.{sets, take-all, take-add, drop-drop}
@@ -18,7 +19,7 @@ use Rattle.isa.proofs.Entries.{Admissible, opcode-byte, lhs-below}
 use Rattle.lists.specs.Lists.{U32List, used, entryAt, multiplicityAt}
 use Rattle.lists.specs.Heights.{listHeight}
 use Rattle.lists.specs.Places.{places}
-use Rattle.packed.specs.Packed.{storedPlaces, keyBytes, storedBytes, storedLength, storedN, storedHeight, storedEntry, storedMultiplicity}
+use Rattle.packed.specs.Packed.{multiplicityWidth, oldMultiplicityWidth, lengthWith, storedLength, oldLength, widthOf, storedPlaces, keyBytes, storedBytes, storedN, storedHeight, storedEntry, storedMultiplicity}
 use Rattle.packed.proofs.Places.{length-places, length-flat, getD-flat, flat-parts}
 
 -- ---- the form
@@ -26,13 +27,14 @@ use Rattle.packed.proofs.Places.{length-places, length-flat, getD-flat,
 abbrev pub keysForm : (ℕ → U32TableEntry) → ℕ → List ℕ
 keysForm f n = flatMap (λ i. keyBytes (f i)) (places n)
 
-abbrev pub countsForm : (ℕ → ℕ) → ℕ → List ℕ
-countsForm m n = flatMap (λ i. le 4 (m i)) (places n)
+-- multiplicities of w bytes
+abbrev pub countsForm : ℕ → (ℕ → ℕ) → ℕ → List ℕ
+countsForm w m n = flatMap (λ i. le w (m i)) (places n)
 
-abbrev pub formed : (ℕ → U32TableEntry) → (ℕ → ℕ) → ℕ → ℕ → List ℕ
-formed f m n h = le 4 n ++ (le 4 h ++ (keysForm f n ++ countsForm m n))
+abbrev pub formed : ℕ → (ℕ → U32TableEntry) → (ℕ → ℕ) → ℕ → ℕ → List ℕ
+formed w f m n h = le 4 n ++ (le 4 h ++ (keysForm f n ++ countsForm w m n))
 
-pub stored-formed : (l : U32List) → storedBytes l ≡ formed (entryAt l) (multiplicityAt l) (used l) (listHeight l)
+pub stored-formed : (l : U32List) → storedBytes l ≡ formed multiplicityWidth (entryAt l) (multiplicityAt l) (used l) (listHeight l)
 unfolding storedBytes storedPlaces
 stored-formed l = rw (length-places 0 (used l))
 
@@ -43,11 +45,11 @@ length-key e = refl
 pub length-keys : (f : ℕ → U32TableEntry) (n : ℕ) → length (keysForm f n) ≡ 17 * n
 length-keys f n = length-flat (λ i. keyBytes (f i)) 17 (λ i. length-key (f i)) 0 n
 
-length-counts : (m : ℕ → ℕ) (n : ℕ) → length (countsForm m n) ≡ 4 * n
-length-counts m n = length-flat (λ i. le 4 (m i)) 4 (λ i. length-le 4 (m i)) 0 n
+length-counts : (w : ℕ) (m : ℕ → ℕ) (n : ℕ) → length (countsForm w m n) ≡ w * n
+length-counts w m n = length-flat (λ i. le w (m i)) w (λ i. length-le w (m i)) 0 n
 
-pub length-formed : (f : ℕ → U32TableEntry) (m : ℕ → ℕ) (n h : ℕ) → length (formed f m n h) ≡ storedLength n
-length-formed f m n h = simp (length-append, length-le, length-keys f n, length-counts m n) (omega arith)
+pub length-formed : (w : ℕ) (f : ℕ → U32TableEntry) (m : ℕ → ℕ) (n h : ℕ) → length (formed w f m n h) ≡ lengthWith w n
+length-formed w f m n h = simp (length-append, length-le, length-keys f n, length-counts w m n) (omega arith)
 
 -- the form, stored part by part
 pub put-form : (n h k : ℕ) (ks ms d d1 d2 d3 d4 : List ℕ) → length ks ≡ k
@@ -93,34 +95,34 @@ module _ (e : U32TableEntry) (a : Admissible e) where
 
 -- ---- what the form holds
 
-module _ (f : ℕ → U32TableEntry) (m : ℕ → ℕ) (n h : ℕ) where
-  past-head : (at k : ℕ) → leAt (formed f m n h) (8 + at) k ≡ leAt (keysForm f n ++ countsForm m n) at k
+module _ (w : ℕ) (f : ℕ → U32TableEntry) (m : ℕ → ℕ) (n h : ℕ) where
+  past-head : (at k : ℕ) → leAt (formed w f m n h) (8 + at) k ≡ leAt (keysForm f n ++ countsForm w m n) at k
   past-head at k =
       let e : 8 + at ≡ 4 + (4 + at) = omega arith in
-      ap (λ (a : ℕ). leAt (formed f m n h) a k) e
-      ∙ after (le 4 n) (le 4 h ++ (keysForm f n ++ countsForm m n)) 4 (4 + at) k (length-le 4 n)
-      ∙ after (le 4 h) (keysForm f n ++ countsForm m n) 4 at k (length-le 4 h)
+      ap (λ (a : ℕ). leAt (formed w f m n h) a k) e
+      ∙ after (le 4 n) (le 4 h ++ (keysForm f n ++ countsForm w m n)) 4 (4 + at) k (length-le 4 n)
+      ∙ after (le 4 h) (keysForm f n ++ countsForm w m n) 4 at k (length-le 4 h)
 
-  pub holds-n : n < 4294967296 → storedN (formed f m n h) ≡ n
+  pub holds-n : n < 4294967296 → storedN (formed w f m n h) ≡ n
   unfolding storedN
   holds-n p = leAt-left (le 4 n) _ 0 4 (omega (arith, length-le 4 n)) ∙ leAt-le 4 n p
 
-  pub holds-height : h < 4294967296 → storedHeight (formed f m n h) ≡ h
+  pub holds-height : h < 4294967296 → storedHeight (formed w f m n h) ≡ h
   unfolding storedHeight
   holds-height p =
-      after (le 4 n) (le 4 h ++ (keysForm f n ++ countsForm m n)) 4 0 4 (length-le 4 n)
-      ∙ leAt-left (le 4 h) (keysForm f n ++ countsForm m n) 0 4 (omega (arith, length-le 4 h))
+      after (le 4 n) (le 4 h ++ (keysForm f n ++ countsForm w m n)) 4 0 4 (length-le 4 n)
+      ∙ leAt-left (le 4 h) (keysForm f n ++ countsForm w m n) 0 4 (omega (arith, length-le 4 h))
       ∙ leAt-le 4 h p
 
-  in-key : (i a k : ℕ) → i < n → a + k ≤ 17 → leAt (formed f m n h) (8 + a + 17 * i) k ≡ leAt (keyBytes (f i)) a k
+  in-key : (i a k : ℕ) → i < n → a + k ≤ 17 → leAt (formed w f m n h) (8 + a + 17 * i) k ≡ leAt (keyBytes (f i)) a k
   in-key i a k p r =
       let e : 8 + a + 17 * i ≡ 8 + (17 * i + a) = omega arith in
-      ap (λ (b : ℕ). leAt (formed f m n h) b k) e
+      ap (λ (b : ℕ). leAt (formed w f m n h) b k) e
       ∙ past-head (17 * i + a) k
-      ∙ leAt-left (keysForm f n) (countsForm m n) (17 * i + a) k (omega (arith, length-keys f n))
+      ∙ leAt-left (keysForm f n) (countsForm w m n) (17 * i + a) k (omega (arith, length-keys f n))
       ∙ in-block (λ i. keyBytes (f i)) 17 (λ i. length-key (f i)) n i a k p r
 
-  pub holds-entry : (i : ℕ) → i < n → Admissible (f i) → storedEntry (formed f m n h) i ≡ f i
+  pub holds-entry : (i : ℕ) → i < n → Admissible (f i) → storedEntry (formed w f m n h) i ≡ f i
   unfolding storedEntry
   holds-entry i p b =
       entries-same
@@ -128,18 +130,47 @@ module _ (f : ℕ → U32TableEntry) (m : ℕ → ℕ) (n h : ℕ) where
       (in-key i 1 8 p (omega arith) ∙ key-lhs (f i) b)
       (in-key i 9 8 p (omega arith) ∙ key-rhs (f i) b)
 
-  pub holds-multiplicity : (i : ℕ) → n < 4294967296 → i < n → m i < 4294967296 → storedMultiplicity (formed f m n h) i ≡ m i
-  unfolding storedMultiplicity
-  holds-multiplicity i p q r =
-      let e : 8 + 17 * n + 4 * i ≡ 8 + (17 * n + (4 * i + 0)) = omega arith in
-      ap (λ (c : ℕ). leAt (formed f m n h) (8 + 17 * c + 4 * i) 4) (holds-n p)
-      ∙ ap (λ (b : ℕ). leAt (formed f m n h) b 4) e
-      ∙ past-head (17 * n + (4 * i + 0)) 4
-      ∙ after (keysForm f n) (countsForm m n) (17 * n) (4 * i + 0) 4 (length-keys f n)
-      ∙ in-block (λ i. le 4 (m i)) 4 (λ i. length-le 4 (m i)) n i 0 4 q (omega arith)
-      ∙ leAt-le 4 (m i) r
+  in-counts : (i : ℕ) → i < n → m i < 256 ^ w → leAt (formed w f m n h) (8 + 17 * n + w * i) w ≡ m i
+  in-counts i q r =
+      let e : 8 + 17 * n + w * i ≡ 8 + (17 * n + (w * i + 0)) = omega arith in
+      ap (λ (b : ℕ). leAt (formed w f m n h) b w) e
+      ∙ past-head (17 * n + (w * i + 0)) w
+      ∙ after (keysForm f n) (countsForm w m n) (17 * n) (w * i + 0) w (length-keys f n)
+      ∙ in-block (λ i. le w (m i)) w (λ i. length-le w (m i)) n i 0 w q (omega arith)
+      ∙ leAt-le w (m i) r
+
+-- the length tells the width
+pub width-old : (s : List ℕ) → length s ≡ oldLength (storedN s) → widthOf s ≡ oldMultiplicityWidth
+unfolding widthOf
+width-old s e = rw (eq-eqb (length s) (oldLength (storedN s)) e)
+
+pub width-other : (s : List ℕ) → (length s ≡ oldLength (storedN s) → ⊥) → widthOf s ≡ multiplicityWidth
+unfolding widthOf
+width-other s f = rw (ne-eqb (length s) (oldLength (storedN s)) f)
+
+pub width-new : (s : List ℕ) → length s ≡ storedLength (storedN s) → 0 < storedN s → widthOf s ≡ multiplicityWidth
+width-new s e p = width-other s (λ f. omega arith)
+
+-- what was written in the new form
+pub holds-multiplicity : (f : ℕ → U32TableEntry) (m : ℕ → ℕ) (n h i : ℕ) → n < 4294967296 → i < n → m i < 18446744073709551616
+    → storedMultiplicity (formed multiplicityWidth f m n h) i ≡ m i
+unfolding storedMultiplicity
+holds-multiplicity f m n h i p q r =
+    let s = formed multiplicityWidth f m n h in
+    let k = holds-n multiplicityWidth f m n h p in
+    let v : widthOf s ≡ 8 = width-new s (length-formed multiplicityWidth f m n h ∙ ap storedLength (sym k)) (omega arith) in
+    ap (λ (w : ℕ). leAt s (8 + 17 * storedN s + w * i) w) v
+    ∙ ap (λ (c : ℕ). leAt s (8 + 17 * c + 8 * i) 8) k
+    ∙ in-counts multiplicityWidth f m n h i q r
 
 -- ---- bytes are the form of what they hold
+
+-- block j of n blocks ends within them
+block-end : (w j n : ℕ) → j < 0 + n → w * j + w ≤ w * n
+block-end w j n q =
+    let l : suc j ≤ n = omega arith in
+    let m : w * suc j ≤ w * n = mul-le-mul-left w l in
+    omega (arith, mul-suc w j)
 
 module _ (s : List ℕ) (b : (j : ℕ) → getD s j 0 < 256) where
   key-part : (j : ℕ) → 8 + 17 * j + 17 ≤ length s → keyBytes (storedEntry s j) ≡ take 17 (drop (8 + 17 * j) s)
@@ -151,33 +182,34 @@ module _ (s : List ℕ) (b : (j : ℕ) → getD s j 0 < 256) where
       rw (le-leAt s b 1 (8 + 17 * j) (omega arith), le-leAt s b 8 (9 + 17 * j) (omega arith), le-leAt s b 8 (17 + 17 * j) (omega arith))
       (rw (← e2, ← drop-drop 8 (9 + 17 * j) s, ← e1, ← drop-drop 1 (8 + 17 * j) s, ← take-add 8 8 (drop 1 D)) (sym (take-add 1 16 D)))
 
-  parts : (n : ℕ) → length s ≡ storedLength n → (a h k c : List ℕ)
-      → a ≡ take 4 s → h ≡ take 4 (drop 4 s) → k ≡ take (17 * n) (drop 8 s) → c ≡ take (4 * n) (drop (8 + 17 * n) s)
+  parts : (w n : ℕ) → length s ≡ lengthWith w n → (a h k c : List ℕ)
+      → a ≡ take 4 s → h ≡ take 4 (drop 4 s) → k ≡ take (17 * n) (drop 8 s) → c ≡ take (w * n) (drop (8 + 17 * n) s)
       → a ++ (h ++ (k ++ c)) ≡ s
-  parts n l a h k c ea eh ek ec =
+  parts w n l a h k c ea eh ek ec =
       rw (
         ea,
         eh,
         ek,
         ec,
         ← drop-drop (17 * n) 8 s,
-        ← take-add (17 * n) (4 * n) (drop 8 s),
+        ← take-add (17 * n) (w * n) (drop 8 s),
         ← drop-drop 4 4 s,
-        ← take-add 4 (17 * n + 4 * n) (drop 4 s),
-        ← take-add 4 (4 + (17 * n + 4 * n)) s,
+        ← take-add 4 (17 * n + w * n) (drop 4 s),
+        ← take-add 4 (4 + (17 * n + w * n)) s,
       )
-      (take-all (4 + (4 + (17 * n + 4 * n))) s (omega arith))
+      (take-all (4 + (4 + (17 * n + w * n))) s (omega arith))
 
-  pub formed-again : (n h : ℕ) → length s ≡ storedLength n → n ≡ storedN s → h ≡ storedHeight s
-      → formed (storedEntry s) (storedMultiplicity s) n h ≡ s
+  pub formed-again : (n h : ℕ) → length s ≡ lengthWith (widthOf s) n → n ≡ storedN s → h ≡ storedHeight s
+      → formed (widthOf s) (storedEntry s) (storedMultiplicity s) n h ≡ s
   unfolding storedN storedHeight storedMultiplicity
   formed-again n h l en eh =
+      let w = widthOf s in
       let K : keysForm (storedEntry s) n ≡ take (17 * n) (drop 8 s)
       = flat-parts s 8 17 (λ i. keyBytes (storedEntry s i)) 0 n (λ j p q. key-part j (omega arith)) in
-      let C : countsForm (storedMultiplicity s) n ≡ take (4 * n) (drop (8 + 17 * n) s)
-      = flat-parts s (8 + 17 * n) 4 (λ i. le 4 (storedMultiplicity s i)) 0 n
-      (λ j p q. rw (← en) (le-leAt s b 4 (8 + 17 * n + 4 * j) (omega arith)))
-      ∙ rw add-zero in
+      let C : countsForm w (storedMultiplicity s) n ≡ take (w * n) (drop (8 + 17 * n) s)
+      = flat-parts s (8 + 17 * n) w (λ i. le w (storedMultiplicity s i)) 0 n
+      (λ j p q. rw (← en) (le-leAt s b w (8 + 17 * n + w * j) (omega (arith, block-end w j n q))))
+      ∙ rw (mul-zero, add-zero) in
       let A : le 4 n ≡ take 4 s = ap (le 4) en ∙ le-leAt s b 4 0 (omega arith) in
       let H : le 4 h ≡ take 4 (drop 4 s) = ap (le 4) eh ∙ le-leAt s b 4 4 (omega arith) in
-      parts n l (le 4 n) (le 4 h) (keysForm (storedEntry s) n) (countsForm (storedMultiplicity s) n) A H K C
+      parts w n l (le 4 n) (le 4 h) (keysForm (storedEntry s) n) (countsForm w (storedMultiplicity s) n) A H K C

@@ -1,6 +1,9 @@
--- Stored lists (document 01, "Recording and stored lists", from "Stored, little-endian" on): the bytes of a list, and what bytes hold.
+-- Stored lists (document 01, "Recording and stored lists", from "Stored, little-endian" on, and change request 9): the bytes of a list, and what
+-- bytes hold.
 use Prim.Native.Nat.{ℕ, _+_, _*_}
 use mathlib.Core.List.{List, [], _∷_, _++_, map, flatMap}
+use mathlib.Core.Bool.{cond}
+use lib.Dec.{eqb}
 use lib.ListN.{length}
 use Rattle.words.specs.LittleEndian.{leAt, le}
 use Rattle.isa.specs.declared.U32TableEntry.{U32TableEntry}
@@ -17,18 +20,30 @@ storedPlaces l = places (used l)
 abbrev pub keyWidth : ℕ
 keyWidth = 17
 
--- "multiplicities of 4"
+-- "Stored multiplicities take 8 bytes"
 abbrev pub multiplicityWidth : ℕ
-multiplicityWidth = 4
+multiplicityWidth = 8
 
--- "Length is exactly 8 + 21·N."
+-- and took 4 in lists of the old length
+abbrev pub oldMultiplicityWidth : ℕ
+oldMultiplicityWidth = 4
+
+-- the length of n entries whose multiplicities take `width` bytes each
+abbrev pub lengthWith : (width n : ℕ) → ℕ
+lengthWith width n = 8 + (keyWidth * n + width * n)
+
+-- "the length is 8 + 25·N"
 abbrev pub storedLength : ℕ → ℕ
-storedLength n = 8 + (keyWidth + multiplicityWidth) * n
+storedLength n = lengthWith multiplicityWidth n
+
+-- "Lists of the old length are still read": 8 + 21·N
+abbrev pub oldLength : ℕ → ℕ
+oldLength n = lengthWith oldMultiplicityWidth n
 
 unfoldable pub keyBytes : U32TableEntry → List ℕ
 keyBytes e = le 1 (e .opcode) ++ (le 8 (lhs e) ++ le 8 (rhs e))
 
--- "Stored, little-endian: 4 bytes N, 4 bytes height; then N keys ..; then N multiplicities of 4."
+-- "Stored, little-endian: 4 bytes N, 4 bytes height; then N keys ..; then N multiplicities"; "writing makes the new length only"
 unfoldable pub storedBytes : U32List → List ℕ
 storedBytes l =
     le 4 (length (storedPlaces l))
@@ -46,8 +61,12 @@ storedHeight s = leAt s 4 4
 unfoldable pub storedEntry : List ℕ → ℕ → U32TableEntry
 storedEntry s i = entry (leAt s (8 + keyWidth * i) 1) (leAt s (9 + keyWidth * i) 8) (leAt s (17 + keyWidth * i) 8)
 
+-- the bytes that a multiplicity takes: the length tells which. For N = 0 both lengths are 8, and there is none
+unfoldable pub widthOf : List ℕ → ℕ
+widthOf s = cond (eqb (length s) (oldLength (storedN s))) oldMultiplicityWidth multiplicityWidth
+
 unfoldable pub storedMultiplicity : List ℕ → ℕ → ℕ
-storedMultiplicity s i = leAt s (8 + keyWidth * storedN s + multiplicityWidth * i) multiplicityWidth
+storedMultiplicity s i = leAt s (8 + keyWidth * storedN s + widthOf s * i) (widthOf s)
 
 abbrev pub storedEntries : List ℕ → List U32TableEntry
 storedEntries s = map (storedEntry s) (places (storedN s))

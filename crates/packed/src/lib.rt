@@ -9,7 +9,7 @@ ghost use Rattle.words.specs.LittleEndian.{le};
 ghost use Rattle.lists.specs.Lists.{u32List, entryAt, multiplicityAt};
 ghost use Rattle.lists.specs.Heights.{listHeight};
 ghost use Rattle.lists.specs.Places.{places};
-ghost use Rattle.packed.specs.Packed.{keyWidth, multiplicityWidth, storedLength, keyBytes, storedBytes, keyWords};
+ghost use Rattle.packed.specs.Packed.{keyWidth, multiplicityWidth, lengthWith, widthOf, storedLength, keyBytes, storedBytes, keyWords};
 ghost use Rattle.packed.specs.Packed.{storedN, storedHeight, storedEntry, storedMultiplicity};
 use isa::U32TableEntry;
 use lists::Sizes;
@@ -19,7 +19,10 @@ pub const HEAD_WIDTH: usize = 8;
 
 pub const KEY_WIDTH: usize = 17;
 
-pub const MULTIPLICITY_WIDTH: usize = 4;
+pub const MULTIPLICITY_WIDTH: usize = 8;
+
+// Lists whose multiplicities take four bytes are read, and not written.
+pub const OLD_MULTIPLICITY_WIDTH: usize = 4;
 
 // The number of entries that the bytes say they hold.
 pub fn stored_n(bytes: &[u8]) -> usize
@@ -50,17 +53,22 @@ fn stored_entry(bytes: &[u8], i: usize) -> U32TableEntry
     }
 }
 
-// The multiplicity at place i of the bytes, which hold n entries.
+// The multiplicity at place i of the bytes, which hold n entries: of four bytes where the length is that of an old list, else of eight.
 fn stored_multiplicity(bytes: &[u8], n: usize, i: usize) -> u64
-    requires { ⌜ (n ≡ storedN (now bytes)) × (n ≤ maxPlaces) × (i < n) × (storedLength n ≤ length (now bytes)) ⌝ }
+    requires { ⌜ (n ≡ storedN (now bytes)) × (n ≤ maxPlaces) × (i < n) × (lengthWith (widthOf (now bytes)) n ≤ length (now bytes)) ⌝ }
     ensures { λ r. ⌜ r ≡ storedMultiplicity (now (bytes .entry)) i ⌝ }
 {
-    words::half_at(bytes, HEAD_WIDTH + KEY_WIDTH * n + MULTIPLICITY_WIDTH * i)
+    let at = HEAD_WIDTH + KEY_WIDTH * n;
+    if bytes.len() == at + OLD_MULTIPLICITY_WIDTH * n {
+        words::half_at(bytes, at + OLD_MULTIPLICITY_WIDTH * i)
+    } else {
+        words::word_at(bytes, at + MULTIPLICITY_WIDTH * i)
+    }
 }
 
 // Stores what the bytes hold in the first n places.
 pub fn unpack(bytes: &[u8], n: usize, keys: &mut [u64], multiplicities: &mut [u64])
-    requires { ⌜ (n ≡ storedN (now bytes)) × (n ≤ maxPlaces) × (storedLength n ≤ length (now bytes)) ⌝ }
+    requires { ⌜ (n ≡ storedN (now bytes)) × (n ≤ maxPlaces) × (lengthWith (widthOf (now bytes)) n ≤ length (now bytes)) ⌝ }
     requires { ⌜ (3 * n ≤ length (now keys)) × (n ≤ length (now multiplicities)) ⌝ }
     ensures { λ _. ⌜ now (keys .exit) ≡ sets (now (keys .entry)) 0 (flatMap (λ i. keyWords (storedEntry (now (bytes .entry)) i)) (places n)) ⌝ }
     ensures { λ _. ⌜ now (multiplicities .exit) ≡ sets (now (multiplicities .entry)) 0 (map (storedMultiplicity (now (bytes .entry))) (places n)) ⌝ }

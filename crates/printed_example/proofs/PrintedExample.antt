@@ -24,9 +24,9 @@ use Rattle.lists.specs.Lists.{U32List, u32List, keyAt, multiplicityAt, entryAt,
 use Rattle.lists.specs.Heights.{getsSection, sectionPlacesTo, sectionPlaces, entriesAt, sumHeights, listHeight}
 use Rattle.lists.specs.Places.{placesFrom}
 use Rattle.aet.specs.Heights.{paddedHeight, planAll}
-use Rattle.packed.specs.Packed.{storedN, storedHeight, storedEntry, storedMultiplicity}
+use Rattle.packed.specs.Packed.{storedN, storedHeight, storedEntry, widthOf, storedMultiplicity}
 use Rattle.repeats.specs.Repeats.{occurs, repeats}
-use Rattle.stored.specs.Stored.{torn, admitStored, tally, contentReason, readReason, readAll}
+use Rattle.stored.specs.Stored.{torn, admitStored, tally, judgeStored, contentReason, readReason, readAll}
 use Rattle.air.specs.Columns.{Row, elementAt, tableShape, auxShape, allReduced}
 use Rattle.air.specs.Challenges.{challengesOf, challengesShape, compressedRow, denominator}
 use Rattle.air.specs.Check.{checkAll}
@@ -58,7 +58,7 @@ unfolding challengesIn leAt placesFrom
 challenges-are = refl
 
 reading-is : readAll unusedPlaces (drop challengeBytes input) ≡ record { answer = done (1 ∷ []); list = list }
-unfolding readAll readReason torn storedN storedHeight storedEntry storedMultiplicity contentReason admitStored admit judgeEntry isOpcode firstReason occurs repeats tally leAt listShape height heightOf dominant admitted floorLog2 placesFrom sumHeights flatMap
+unfolding readAll readReason torn storedN storedHeight storedEntry widthOf storedMultiplicity contentReason judgeStored countFull admitStored admit judgeEntry isOpcode firstReason occurs repeats tally leAt listShape height heightOf dominant admitted floorLog2 placesFrom sumHeights flatMap
 reading-is = refl
 
 height-is : listHeight list ≡ 3

@@ -1,5 +1,5 @@
 -- The printed example (document 01, "Recording and stored lists"): "For Indeterminate (1, 0, 0), weights zero, and the one entry and 3, 1 with
--- multiplicity 2 it prints" what follows there, on the padded height of change request 4.
+-- multiplicity 2 it prints" what follows there, on the padded height of change request 4. The list is stored in the form of change request 9.
 use Prim.Native.Nat.{ℕ, zero, suc}
 use mathlib.Core.List.{List, [], _∷_, _++_}
 use lib.ListN.{replicate}
@@ -17,7 +17,7 @@ storedList =
     ∷ 14
     ∷ 3 ∷ 0 ∷ 0 ∷ 0 ∷ 0 ∷ 0 ∷ 0 ∷ 0
     ∷ 1 ∷ 0 ∷ 0 ∷ 0 ∷ 0 ∷ 0 ∷ 0 ∷ 0
-    ∷ 2 ∷ 0 ∷ 0 ∷ 0 ∷ []
+    ∷ 2 ∷ 0 ∷ 0 ∷ 0 ∷ 0 ∷ 0 ∷ 0 ∷ 0 ∷ []
 
 abbrev pub input : List ℕ
 input = challengeBytes ++ storedList

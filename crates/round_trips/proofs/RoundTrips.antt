@@ -1,33 +1,33 @@
 -- The two round trips, over `writeAll` and `readAll`, which the contracts of writing and reading cite. That the second call does not refuse is a
 -- conclusion of each. What was written holds the list's entries and multiplicities, since these fit the bytes that are given to them; what was
 -- read is the stored form of what the bytes hold.
-use mathlib.Core.Path.{_≡_, refl, sym, ap, _∙_}
+use mathlib.Core.Path.{_≡_, refl, sym, ap, ap₂, _∙_}
 use mathlib.Core.Bool.{false}
-use mathlib.Core.List.{List, [], _∷_, map}
-use Prim.Native.Nat.{ℕ, _+_, _*_, _≤_, _<_}
+use mathlib.Core.List.{List, [], _∷_, map, flatMap}
+use native.Mathlib.Decide.{ℕ-discrete}
+use Prim.Native.Nat.{ℕ, _≤_, _<_}
 use native.Mathlib.Omega.{arith}
 use lib.ListN.{length, getD, take}
 use lib.Seq.{sets, length-sets}
 use Rattle.words.specs.Answers.{Answer, done}
 use Rattle.words.specs.declared.Judgement.{Judgement}
 use Rattle.words.specs.declared.Judgement.the-variants.{Fine, Declined}
-use Rattle.words.proofs.LittleEndian.{leAt-bound}
 use Rattle.words.proofs.Sets.{sets-front, take-sets-front}
 use Rattle.isa.specs.Entries.{admitted}
 use Rattle.isa.proofs.Entries.{admissible-fine}
 use Rattle.lists.specs.Lists.{U32List, capacity, used, keyAt, multiplicityAt, entryAt, listShape, judgeList}
 use Rattle.lists.specs.Heights.{sumHeights, listHeight}
 use Rattle.lists.proofs.JudgedLists.{Shaped, shaped, list-admitted, admitted-fine, entry-admissible, list-height-small}
-use Rattle.lists.specs.Places.{places}
-use Rattle.packed.specs.Packed.{storedLength, storedBytes, storedN, storedHeight, storedEntry, storedMultiplicity, storedEntries}
+use Rattle.lists.specs.Places.{places, placesFrom}
+use Rattle.packed.specs.Packed.{multiplicityWidth, widthOf, storedLength, storedBytes, storedN, storedHeight, storedEntry, storedMultiplicity, storedEntries}
 use Rattle.repeats.specs.Repeats.{repeats}
 use Rattle.stored.specs.Stored.{admitStored, readReason, readAs, readAll, replaced, writeReason, writtenAs, AfterWriting, writeAll}
-use Rattle.round_trips.specs.RoundTrips.{ReadsBack, WrittenAgain}
+use Rattle.round_trips.specs.RoundTrips.{ReadsBack, NewForm, WrittenAgain}
 use Rattle.packed.proofs.Places.{length-stored-places, map-cong, flat-cong, section-entries-map}
-use Rattle.stored.proofs.Reasons.{Readable, readable, readable-fine, writable, write-fine}
+use Rattle.stored.proofs.Reasons.{new-long, Readable, readable, readable-fine, writable, write-fine}
 use Rattle.packed.proofs.Replaced.{keysOf, key-put, multiplicity-put}
 use Rattle.stored.proofs.Fits.{length-stored}
-use Rattle.packed.proofs.Format.{keysForm, countsForm, stored-formed, holds-n, holds-height, holds-entry, holds-multiplicity, formed-again}
+use Rattle.packed.proofs.Format.{keysForm, countsForm, formed, width-new, stored-formed, holds-n, holds-height, holds-entry, holds-multiplicity, formed-again}
 
 -- ---- an answer other than a refusal
 
@@ -90,16 +90,16 @@ module _ (l : U32List) (fine : judgeList l ≡ Fine) where
   few = let f = list-admitted l fine .shape in omega arith
 
   stored-n : storedN (storedBytes l) ≡ used l
-  stored-n = let u = few in rw (stored-formed l) (holds-n (entryAt l) (multiplicityAt l) (used l) (listHeight l) (omega arith))
+  stored-n = let u = few in rw (stored-formed l) (holds-n multiplicityWidth (entryAt l) (multiplicityAt l) (used l) (listHeight l) (omega arith))
 
   stored-height : storedHeight (storedBytes l) ≡ listHeight l
   stored-height =
       let h = list-height-small l fine in
-      rw (stored-formed l) (holds-height (entryAt l) (multiplicityAt l) (used l) (listHeight l) (omega arith))
+      rw (stored-formed l) (holds-height multiplicityWidth (entryAt l) (multiplicityAt l) (used l) (listHeight l) (omega arith))
 
   stored-entry : (i : ℕ) → i < used l → storedEntry (storedBytes l) i ≡ entryAt l i
   stored-entry i p =
-      rw (stored-formed l) (holds-entry (entryAt l) (multiplicityAt l) (used l) (listHeight l) i p (entry-admissible l fine i p))
+      rw (stored-formed l) (holds-entry multiplicityWidth (entryAt l) (multiplicityAt l) (used l) (listHeight l) i p (entry-admissible l fine i p))
 
   stored-multiplicity : (i : ℕ) → i < used l → storedMultiplicity (storedBytes l) i ≡ multiplicityAt l i
   stored-multiplicity i p =
@@ -118,9 +118,10 @@ module _ (l : U32List) (fine : judgeList l ≡ Fine) where
     stored-readable : Readable to (storedBytes l)
     stored-readable = record {
       shape = sh;
-      complete = record { few = rw stored-n few; long = rw stored-n (length-stored l) };
+      complete = record { few = rw stored-n few; long = new-long (storedBytes l) (length-stored l ∙ ap storedLength (sym stored-n)) };
       room = rw stored-n room;
       entries = λ i p. let q : i < used l = rw stored-n at p in rw (stored-entry i q) (stored-admitted i q);
+      counts = λ i p. let q : i < used l = rw stored-n at p in rw (stored-multiplicity i q) (list-admitted l fine .multiplicity i q);
       distinct = rw stored-list none;
       tallied = rw stored-list (stored-height ∙ height-sum l);
     }
@@ -152,7 +153,7 @@ written-reads-back l to out n a sh room =
 
 -- ---- what was accepted is written again
 
-module _ (l : U32List) (s : List ℕ) (bytes : (j : ℕ) → getD s j 0 < 256) (h : Readable l s) where
+module _ (l : U32List) (s : List ℕ) (h : Readable l s) where
   replaced-shape : Shaped (replaced l s)
   replaced-shape =
       let f = h .shape in
@@ -164,34 +165,83 @@ module _ (l : U32List) (s : List ℕ) (bytes : (j : ℕ) → getD s j 0 < 256) (
       }
 
   replaced-fine : judgeList (replaced l s) ≡ Fine
-  unfolding admitStored storedMultiplicity
+  unfolding admitStored
   replaced-fine =
       admitted-fine (replaced l s)
       (record {
         shape = replaced-shape;
         entry = λ i p. rw (replaced-key l s h i p) (h .entries i p);
-        multiplicity = λ i p. rw (replaced-multiplicity l s h i p) (omega (arith, leAt-bound s bytes (8 + 17 * storedN s + 4 * i) 4));
+        multiplicity = λ i p. rw (replaced-multiplicity l s h i p) (h .counts i p);
       })
 
-  replaced-bytes : storedBytes (replaced l s) ≡ s
-  replaced-bytes =
+  replaced-height : listHeight (replaced l s) ≡ storedHeight s
+  replaced-height = height-sum (replaced l s) ∙ ap sumHeights (replaced-entries l s h) ∙ sym (h .tallied)
+
+  -- the bytes of the list that was read: the same, with multiplicities of eight bytes
+  replaced-form : storedBytes (replaced l s) ≡ formed multiplicityWidth (storedEntry s) (storedMultiplicity s) (storedN s) (storedHeight s)
+  replaced-form =
       let K : keysForm (entryAt (replaced l s)) (storedN s) ≡ keysForm (storedEntry s) (storedN s)
       = flat-cong _ _ 0 (storedN s) (λ i p q. rw (replaced-entry l s h i (omega arith))) in
-      let C : countsForm (multiplicityAt (replaced l s)) (storedN s) ≡ countsForm (storedMultiplicity s) (storedN s)
+      let C : countsForm multiplicityWidth (multiplicityAt (replaced l s)) (storedN s) ≡ countsForm multiplicityWidth (storedMultiplicity s) (storedN s)
       = flat-cong _ _ 0 (storedN s) (λ i p q. rw (replaced-multiplicity l s h i (omega arith))) in
-      let H : listHeight (replaced l s) ≡ storedHeight s = height-sum (replaced l s) ∙ ap sumHeights (replaced-entries l s h) ∙ sym (h .tallied) in
-      stored-formed (replaced l s) ∙ rw (K, C) (formed-again s bytes (storedN s) (listHeight (replaced l s)) (h .complete .long) refl H)
+      stored-formed (replaced l s) ∙ rw (K, C, replaced-height)
 
-  replaced-written : (out : List ℕ) → length s ≤ length out → writeReason (replaced l s) out ≡ Fine
+  replaced-written : (out : List ℕ) → storedLength (storedN s) ≤ length out → writeReason (replaced l s) out ≡ Fine
   replaced-written out r =
-      write-fine (replaced l s) out replaced-fine (ap repeats (replaced-entries l s h) ∙ h .distinct) (omega (arith, h .complete .long))
+      write-fine (replaced l s) out replaced-fine (ap repeats (replaced-entries l s h) ∙ h .distinct) r
 
--- Reading has answered n: the list that it left is written to the same bytes, wherever there is room for them
+  -- they hold the list that s holds
+  again-readable : Readable l (storedBytes (replaced l s))
+  again-readable =
+      stored-readable (replaced l s) replaced-fine (ap repeats (replaced-entries l s h) ∙ h .distinct) l (h .shape) (h .room)
+
+  again-list : replaced l (storedBytes (replaced l s)) ≡ replaced l s
+  again-list =
+      let t = storedBytes (replaced l s) in
+      let n : storedN t ≡ storedN s = stored-n (replaced l s) replaced-fine in
+      let K : keysOf (storedEntry t) (storedN s) ≡ keysOf (storedEntry s) (storedN s)
+      = flat-cong _ _ 0 (storedN s) (λ i p q. rw (stored-entry (replaced l s) replaced-fine i (omega arith), replaced-entry l s h i (omega arith))) in
+      let M : map (storedMultiplicity t) (places (storedN s)) ≡ map (storedMultiplicity s) (places (storedN s))
+      = map-cong _ _ 0 (storedN s) (λ i p q. stored-multiplicity (replaced l s) replaced-fine i (omega arith) ∙ replaced-multiplicity l s h i (omega arith)) in
+      rw (n, K, M)
+
+module _ (l : U32List) (s : List ℕ) (bytes : (j : ℕ) → getD s j 0 < 256) (h : Readable l s) where
+  -- where s has the new length, they are s
+  replaced-bytes : length s ≡ storedLength (storedN s) → storedBytes (replaced l s) ≡ s
+  unfolding placesFrom flatMap
+  replaced-bytes long = replaced-form l s h ∙ go (ℕ-discrete (storedN s) 0) ∙ formed-again s bytes (storedN s) (storedHeight s) (h .complete .long) refl refl
+    where
+      go : Dec (storedN s ≡ 0)
+          → formed multiplicityWidth (storedEntry s) (storedMultiplicity s) (storedN s) (storedHeight s)
+          ≡ formed (widthOf s) (storedEntry s) (storedMultiplicity s) (storedN s) (storedHeight s)
+      go (yes z) = rw z refl
+      go (no f) = ap (λ (w : ℕ). formed w (storedEntry s) (storedMultiplicity s) (storedN s) (storedHeight s)) (sym (width-new s long (omega arith)))
+
+  new-form : NewForm l s (storedBytes (replaced l s))
+  new-form = record {
+    long = length-stored (replaced l s);
+    same-list =
+        read-is l (storedBytes (replaced l s)) (readable-fine l (storedBytes (replaced l s)) (again-readable l s h))
+        ∙ ap₂ (λ (n : ℕ) (r : U32List). record { answer = done (n ∷ []); list = r }) (stored-n (replaced l s) (replaced-fine l s h)) (again-list l s h)
+        ∙ sym (read-is l s (readable-fine l s h));
+    same-bytes = replaced-bytes;
+  }
+
+-- Reading has answered n: the list that it left is written in the new form, wherever there is room for it
 pub read-writes-back : (l : U32List) (s out : List ℕ) (n : ℕ) → ((j : ℕ) → getD s j 0 < 256)
-    → readAll l s .answer ≡ done (n ∷ []) → length s ≤ length out
-    → WrittenAgain s out (writeAll (readAll l s .list) out)
+    → readAll l s .answer ≡ done (n ∷ []) → storedLength (storedN s) ≤ length out
+    → (t : List ℕ) × NewForm l s t × WrittenAgain t out (writeAll (readAll l s .list) out)
 read-writes-back l s out n bytes a room =
     let e = read-answered l s n a in
     let h = readable l s e in
-    rw (read-is l s e, written-is (replaced l s) out (replaced-written l s bytes h out room), replaced-bytes l s bytes h)
-    (record { answer = ap (λ (k : ℕ). done (k ∷ [])) (sym (h .complete .long)); bytes = sets-front s out room })
+    let t = storedBytes (replaced l s) in
+    let k = length-stored (replaced l s) in (
+      t,
+      new-form l s bytes h,
+      rw (read-is l s e, written-is (replaced l s) out (replaced-written l s h out room))
+          (record { answer = ap (λ (k : ℕ). done (k ∷ [])) (sym k); bytes = sets-front t out (omega arith) }),
+    )
+
+-- a list that was read is admitted
+pub read-list-fine : (l : U32List) (s : List ℕ) → readReason l s ≡ Fine → judgeList (readAll l s .list) ≡ Fine
+read-list-fine l s e = rw (read-is l s e) (replaced-fine l s (readable l s e))

@@ -85,5 +85,5 @@ module _ (l : U32List) (s out : List ℕ) where
         list = d .list;
         law = λ _ room.
             let a = read-writes-back l s out n b (sym (d .answer)) room in
-            record { answer = v .answer ∙ a .answer; bytes = v .bytes ∙ a .bytes };
+            (a .0, a .1, record { answer = v .answer ∙ a .2 .answer; bytes = v .bytes ∙ a .2 .bytes });
       }

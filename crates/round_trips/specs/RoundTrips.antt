@@ -1,4 +1,5 @@
--- The two round trips of stored lists: what was written reads back as the same list, and what was accepted is written again to the same bytes.
+-- The two round trips of stored lists: what was written reads back as the same list, and what was accepted is written again in the new form, to the
+-- same bytes where it has that form.
 use Prim.Native.Nat.{ℕ, _≤_, _<_}
 use mathlib.Core.Path.{_≡_}
 use mathlib.Core.List.{List, [], _∷_, _++_}
@@ -8,7 +9,7 @@ use Rattle.words.specs.declared.Judgement.{Judgement}
 use Rattle.words.specs.declared.Judgement.the-variants.{Fine, Declined}
 use Rattle.lists.specs.Lists.{U32List, capacity, used, entryAt, multiplicityAt, listShape}
 use Rattle.aet.specs.Recording.{After}
-use Rattle.packed.specs.Packed.{storedPlaces, storedLength}
+use Rattle.packed.specs.Packed.{storedPlaces, storedLength, storedN}
 use Rattle.stored.specs.Stored.{readReason, readAll, readAnswer, IsRead, writeReason, AfterWriting, writeAll, writtenAnswer, IsWritten}
 use Rattle.stored.specs.declared.Read.{Read}
 use Rattle.stored.specs.declared.Written.{Written}
@@ -28,6 +29,13 @@ pub record ReadsBack (l : U32List) (reading : After) : Type 0 where
 pub record WrittenAgain (s out : List ℕ) (writing : AfterWriting) : Type 0 where
   pub answer : writing .answer ≡ done (length s ∷ [])
   pub bytes : writing .bytes ≡ s ++ drop (length s) out
+
+-- "'same bytes again' holds for lists of the new length, and an old one is written to the new form of the same list": t has the new length,
+-- holds the list that s holds, and is s itself where s has the new length
+pub record NewForm (l : U32List) (s t : List ℕ) : Type 0 where
+  pub long : length t ≡ storedLength (storedN s)
+  pub same-list : readAll l t ≡ readAll l s
+  pub same-bytes : length s ≡ storedLength (storedN s) → t ≡ s
 
 -- Writing the list l to `out`, then reading what was written onto another list; nothing is read where writing refuses
 abbrev pub writtenThenRead : Judgement → U32List → List ℕ → U32List → After
@@ -51,8 +59,9 @@ readThenWritten (Declined reason) l s out = record { answer = declined reason; b
 unfoldable pub readThenWrite : U32List → List ℕ → List ℕ → AfterWriting
 readThenWrite l s out = readThenWritten (readReason l s) l s out
 
--- What both calls leave, and the law: bytes that are not refused are written again, wherever there is room for them
+-- What both calls leave, and the law: bytes that are not refused are written again in the new form, wherever there is room for it
 pub record IsReadThenWritten (l : U32List) (s out : List ℕ) (r : Written) (after : U32List) (outAfter : List ℕ) : Type 0 where
   pub exact : IsWritten (readThenWrite l s out) r outAfter
   pub list : after ≡ readAll l s .list
-  pub law : readReason l s ≡ Fine → length s ≤ length out → WrittenAgain s out (record { answer = writtenAnswer r; bytes = outAfter })
+  pub law : readReason l s ≡ Fine → storedLength (storedN s) ≤ length out
+      → (t : List ℕ) × NewForm l s t × WrittenAgain t out (record { answer = writtenAnswer r; bytes = outAfter })

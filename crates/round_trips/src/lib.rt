@@ -1,5 +1,5 @@
 // The two round trips of stored lists, as two calls each: what was written reads back as the same list, and what was accepted is written again
-// to the same bytes. Where the first call refuses, the second is not made.
+// in the new form, to the same bytes where it has that form. Where the first call refuses, the second is not made.
 ghost use Rattle.lists.specs.Lists.{u32List};
 ghost use Rattle.round_trips.specs.RoundTrips.{IsWrittenThenRead, IsReadThenWritten};
 use lists::Sizes;

@@ -1,27 +1,26 @@
--- What bytes hold, unpacked onto arrays of 2,048 places: judging that list is judging what the bytes hold. A stored multiplicity has four bytes, so
--- that reason 5 is never met there.
+-- What bytes hold, unpacked onto arrays of 2,048 places: judging that list is judging what the bytes hold. A place is judged as the
+-- stored entry and its multiplicity are.
 use mathlib.Core.Path.{_≡_, sym, ap, _∙_}
 use mathlib.Core.Bool.{true, false}
 use mathlib.Core.List.{List, map}
-use Prim.Native.Nat.{ℕ, _+_, _*_, _≤_, _<_}
+use Prim.Native.Nat.{ℕ, _≤_, _<_}
 use native.Mathlib.Omega.{arith}
-use borrow.Author.Tests.{le-ltb, eq-eqb, ne-eqb}
-use lib.ListN.{length, getD}
+use borrow.Author.Tests.{eq-eqb, ne-eqb}
+use lib.ListN.{length}
 use lib.Seq.{sets, length-sets}
 use Rattle.words.specs.Refusals.{firstReason}
 use Rattle.words.specs.declared.Refusal.{Refusal}
 use Rattle.words.specs.declared.Refusal.the-variants.{Repeat, Tally}
 use Rattle.words.specs.declared.Judgement.the-variants.{Fine, Declined}
-use Rattle.words.proofs.Judgements.{or-first, or-next, or-fine, decline-true, decline-false, first-cong}
-use Rattle.words.proofs.LittleEndian.{leAt-bound}
-use Rattle.isa.specs.Entries.{judgeEntry, admitted}
-use Rattle.lists.specs.Lists.{U32List, u32List, keyAt, multiplicityAt, entryAt, listShape, countFull, judgePlace, judgeList}
+use Rattle.words.proofs.Judgements.{or-first, or-next, decline-true, decline-false, first-cong}
+use Rattle.isa.specs.Entries.{admitted}
+use Rattle.lists.specs.Lists.{U32List, u32List, keyAt, multiplicityAt, entryAt, listShape, judgePlace, judgeList}
 use Rattle.lists.specs.Heights.{sumHeights, listHeight}
 use Rattle.lists.proofs.JudgedLists.{shape-fine}
 use Rattle.lists.specs.Places.{places}
 use Rattle.repeats.specs.Repeats.{repeats}
 use Rattle.packed.specs.Packed.{storedN, storedHeight, storedEntry, storedMultiplicity, storedEntries}
-use Rattle.stored.specs.Stored.{admitStored, tally, contentReason}
+use Rattle.stored.specs.Stored.{admitStored, judgeStored, tally, contentReason}
 use Rattle.packed.proofs.Places.{map-cong, section-entries-map}
 use Rattle.packed.proofs.Replaced.{keysOf, key-put, multiplicity-put}
 
@@ -29,7 +28,7 @@ use Rattle.packed.proofs.Replaced.{keysOf, key-put, multiplicity-put}
 abbrev pub copy : ℕ → List ℕ → List ℕ → U32List
 copy n ks ms = u32List (record { capacity = 2048; used = n }) ks ms
 
-module _ (s ks₀ ms₀ ks ms : List ℕ) (n : ℕ) (bytes : (j : ℕ) → getD s j 0 < 256)
+module _ (s ks₀ ms₀ ks ms : List ℕ) (n : ℕ)
     (is : n ≡ storedN s) (few : n ≤ 2048) (lk : length ks₀ ≡ 6144) (lm : length ms₀ ≡ 2048)
     (ek : ks ≡ sets ks₀ 0 (keysOf (storedEntry s) n)) (em : ms ≡ sets ms₀ 0 (map (storedMultiplicity s) (places n))) where
   copy-key : (i : ℕ) → i < n → keyAt (copy n ks ms) i ≡ storedEntry s i
@@ -46,18 +45,16 @@ module _ (s ks₀ ms₀ ks ms : List ℕ) (n : ℕ) (bytes : (j : ℕ) → getD 
     multiplicities = ap length em ∙ length-sets ms₀ 0 (map (storedMultiplicity s) (places n)) ∙ lm;
   })
 
-  copy-place : (i : ℕ) → i < n → judgePlace (copy n ks ms) i ≡ admitStored (storedEntry s i)
-  unfolding judgePlace countFull admitStored storedMultiplicity
-  copy-place i p =
-      let b = leAt-bound s bytes (8 + 17 * storedN s + 4 * i) 4 in
-      rw (copy-key i p, copy-multiplicity i p, le-ltb 4294967295 (storedMultiplicity s i) (omega arith)) (or-fine (judgeEntry (storedEntry s i)))
+  copy-place : (i : ℕ) → i < n → judgePlace (copy n ks ms) i ≡ judgeStored s i
+  unfolding judgePlace admitStored judgeStored
+  copy-place i p = rw (copy-key i p, copy-multiplicity i p)
 
-  copy-judged : judgeList (copy n ks ms) ≡ firstReason (λ i. admitStored (storedEntry s i)) 0 (storedN s)
+  copy-judged : judgeList (copy n ks ms) ≡ firstReason (judgeStored s) 0 (storedN s)
   unfolding judgeList
   copy-judged =
       or-next _ copy-shape
-      ∙ first-cong (judgePlace (copy n ks ms)) (λ i. admitStored (storedEntry s i)) 0 n (λ i p q. copy-place i (omega arith))
-      ∙ ap (firstReason (λ i. admitStored (storedEntry s i)) 0) is
+      ∙ first-cong (judgePlace (copy n ks ms)) (judgeStored s) 0 n (λ i p q. copy-place i (omega arith))
+      ∙ ap (firstReason (judgeStored s) 0) is
 
   copy-entry : (i : ℕ) → i < n → entryAt (copy n ks ms) i ≡ storedEntry s i
   unfolding entryAt admitted

@@ -8,14 +8,14 @@ use Rattle.words.specs.declared.Judgement.the-variants.{Fine}
 use Rattle.lists.specs.Lists.{U32List, used, entryAt, multiplicityAt}
 use Rattle.lists.specs.Heights.{listHeight}
 use Rattle.lists.specs.Places.{places}
-use Rattle.packed.specs.Packed.{storedLength, storedBytes, storedN, storedEntry, storedMultiplicity}
+use Rattle.packed.specs.Packed.{multiplicityWidth, storedLength, storedBytes, storedN, storedEntry, storedMultiplicity}
 use Rattle.stored.specs.Stored.{readReason, writeReason}
 use Rattle.stored.proofs.Reasons.{readable, writable}
 use Rattle.packed.proofs.Replaced.{keysOf, length-keys-of, length-map}
 use Rattle.packed.proofs.Format.{stored-formed, length-formed}
 
 pub length-stored : (l : U32List) → length (storedBytes l) ≡ storedLength (used l)
-length-stored l = rw (stored-formed l) (length-formed (entryAt l) (multiplicityAt l) (used l) (listHeight l))
+length-stored l = rw (stored-formed l) (length-formed multiplicityWidth (entryAt l) (multiplicityAt l) (used l) (listHeight l))
 
 pub read-fits : (l : U32List) (s : List ℕ) → readReason l s ≡ Fine
     → (length (keysOf (storedEntry s) (storedN s)) ≤ length (l .keys))

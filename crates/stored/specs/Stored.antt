@@ -11,13 +11,13 @@ use Rattle.words.specs.Answers.{Answer, done, declined}
 use Rattle.words.specs.Refusals.{declineIf, orElse, firstReason}
 use Rattle.words.specs.declared.Judgement.{Judgement}
 use Rattle.words.specs.declared.Judgement.the-variants.{Fine, Declined}
-use Rattle.words.specs.declared.Refusal.the-variants.{ListFull, Short, Torn, Repeat, Tally}
+use Rattle.words.specs.declared.Refusal.the-variants.{CountFull, ListFull, Short, Torn, Repeat, Tally}
 use Rattle.isa.specs.declared.U32TableEntry.{U32TableEntry}
 use Rattle.isa.specs.Entries.{judgeEntry}
-use Rattle.lists.specs.Lists.{U32List, u32List, capacity, listShape, judgeList}
+use Rattle.lists.specs.Lists.{U32List, u32List, capacity, listShape, countFull, judgeList}
 use Rattle.lists.specs.Heights.{entriesAt, sumHeights}
 use Rattle.aet.specs.Recording.{After}
-use Rattle.packed.specs.Packed.{storedPlaces, storedLength, storedBytes, storedN, storedHeight, storedEntry, storedMultiplicity, storedEntries, keyWords}
+use Rattle.packed.specs.Packed.{storedPlaces, storedLength, oldLength, storedBytes, storedN, storedHeight, storedEntry, storedMultiplicity, storedEntries, keyWords}
 use Rattle.repeats.specs.Repeats.{repeats}
 use Rattle.stored.specs.declared.Read.{Read}
 use Rattle.stored.specs.declared.Read.the-variants.{Entries, Refused}
@@ -25,9 +25,14 @@ use Rattle.stored.specs.declared.Written.{Written}
 use Rattle.stored.specs.declared.Written.the-variants.{Length, Refused as WriteRefused}
 use Rattle.lists.specs.Places.{places}
 
--- 10: "stored length wrong or N above 2,048". Bytes too few to hold N have a wrong length too: none is shorter than 8
+-- 10: "stored length wrong or N above 2,048". Two lengths are right: 8 + 25·N, and "Lists of the old length are still read". Bytes too few to
+-- hold N have a wrong length too: none is shorter than 8
 unfoldable pub torn : List ℕ → Judgement
-torn s = declineIf (ltb maxPlaces (storedN s) || not (eqb (length s) (storedLength (storedN s)))) Torn
+torn s =
+    declineIf
+    (ltb maxPlaces (storedN s)
+    || not (eqb (length s) (oldLength (storedN s)) || eqb (length s) (storedLength (storedN s))))
+    Torn
 
 -- 2 to 4 for a stored entry, which is taken as it stands in the bytes
 unfoldable pub admitStored : U32TableEntry → Judgement
@@ -37,14 +42,18 @@ admitStored e = judgeEntry e
 unfoldable pub tally : List ℕ → Judgement
 tally s = declineIf (not (eqb (storedHeight s) (sumHeights (storedEntries s)))) Tally
 
--- ".. then 2 to 4 entry by entry, 11, 12"
+-- "Reading meets 5 after 4, entry by entry"
+unfoldable pub judgeStored : List ℕ → ℕ → Judgement
+judgeStored s i = orElse (admitStored (storedEntry s i)) (declineIf (countFull (storedMultiplicity s i)) CountFull)
+
+-- ".. then 2 to 5 entry by entry, 11, 12"
 unfoldable pub contentReason : List ℕ → Judgement
 contentReason s =
-    orElse (firstReason (λ i. admitStored (storedEntry s i)) 0 (storedN s))
+    orElse (firstReason (judgeStored s) 0 (storedN s))
     (orElse (declineIf (repeats (storedEntries s)) Repeat)
     (tally s))
 
--- "Read 1, 10, 6, then 2 to 4 entry by entry, 11, 12"; 6 is "on reading, N over the capacity"
+-- "Read 1, 10, 6, then 2 to 5 entry by entry, 11, 12"; 6 is "on reading, N over the capacity"
 unfoldable pub readReason : U32List → List ℕ → Judgement
 readReason l s =
     orElse (listShape l)

@@ -4,7 +4,7 @@ ghost use Prim.Native.Nat.{_≤_};
 ghost use lib.ListN.{length};
 ghost use Rattle.words.specs.Limits.{maxPlaces};
 ghost use Rattle.lists.specs.Lists.{u32List};
-ghost use Rattle.packed.specs.Packed.{storedLength, storedN};
+ghost use Rattle.packed.specs.Packed.{lengthWith, widthOf, storedLength, oldLength, storedN};
 ghost use Rattle.stored.specs.Stored.{contentReason, readReason, readAll, IsRead, writeAll, IsWritten};
 ghost use Rattle.stored.specs.Stored.{torn as Stored·torn};
 use lists::Judged;
@@ -35,10 +35,18 @@ fn stored_length(n: usize) -> usize
     requires { ⌜ n ≤ maxPlaces ⌝ }
     ensures { λ r. ⌜ r ≡ storedLength n ⌝ }
 {
-    packed::HEAD_WIDTH + (packed::KEY_WIDTH + packed::MULTIPLICITY_WIDTH) * n
+    packed::HEAD_WIDTH + (packed::KEY_WIDTH * n + packed::MULTIPLICITY_WIDTH * n)
 }
 
-// Reason 10: the bytes are not as many as their number of entries says, or that number is too large.
+// The number of bytes that n entries took with multiplicities of four bytes.
+fn old_length(n: usize) -> usize
+    requires { ⌜ n ≤ maxPlaces ⌝ }
+    ensures { λ r. ⌜ r ≡ oldLength n ⌝ }
+{
+    packed::HEAD_WIDTH + (packed::KEY_WIDTH * n + packed::OLD_MULTIPLICITY_WIDTH * n)
+}
+
+// Reason 10: the bytes are not as many as their number of entries says, in the new form or in the old, or that number is too large.
 fn torn(bytes: &[u8]) -> Judgement
     ensures { λ r. ⌜ r ≡ Stored·torn (now (bytes .entry)) ⌝ }
 {
@@ -49,15 +57,17 @@ fn torn(bytes: &[u8]) -> Judgement
     if MAX_PLACES < n {
         return Judgement::Declined(Refusal::Torn);
     }
-    if bytes.len() != stored_length(n) {
-        return Judgement::Declined(Refusal::Torn);
+    if bytes.len() != old_length(n) {
+        if bytes.len() != stored_length(n) {
+            return Judgement::Declined(Refusal::Torn);
+        }
     }
     Judgement::Fine
 }
 
-// Reasons 2 to 4 entry by entry, 11 and 12 against what the bytes hold. It is judged on a copy.
+// Reasons 2 to 5 entry by entry, 11 and 12 against what the bytes hold. It is judged on a copy.
 fn judge_content(bytes: &[u8], n: usize) -> Judgement
-    requires { ⌜ (n ≡ storedN (now bytes)) × (n ≤ maxPlaces) × (storedLength n ≤ length (now bytes)) ⌝ }
+    requires { ⌜ (n ≡ storedN (now bytes)) × (n ≤ maxPlaces) × (lengthWith (widthOf (now bytes)) n ≤ length (now bytes)) ⌝ }
     ensures { λ r. ⌜ r ≡ contentReason (now (bytes .entry)) ⌝ }
 {
     let mut keys = [0u64; 6144];

@@ -103,7 +103,7 @@ readText bytes challenges =
     let reading = readAll unusedPlaces bytes in
     unlessRefused (reading .answer) (listText (reading .list) challenges)
 
--- "Input under 120 bytes prints `refused 1`, over 43,136 `refused 10`; then reading refuses"
+-- "Input under 120 bytes prints `refused 1`, over" 51,328 "`refused 10`; then reading refuses"
 unfoldable pub transcriptOf : List ℕ → List ℕ
 transcriptOf input =
     cond (ltb (length input) challengeBytes) (refusedLine (refusalNumber Shape))

@@ -28,7 +28,7 @@ use xfield::XFieldElement;
 const CHALLENGE_BYTES: usize = 120;
 
 // Fifteen challenges and 2,048 stored entries: more bytes are refused.
-pub const MAX_INPUT: usize = 43136;
+pub const MAX_INPUT: usize = 51328;
 
 // A higher padded height is not printed.
 const MAX_PRINTED_ROWS: u64 = 512;

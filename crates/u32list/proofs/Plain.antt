@@ -1,15 +1,14 @@
 -- What `u32list` prints is `plainText` (prints-plainly): of the calls, only reading and extension refuse, and the check's answer is zero. A list that
--- was read is admitted, since it can be written again (round_trips); so the plan and fill do not refuse, and the rest is the claim over the
+-- was read is admitted (round_trips: read-list-fine); so the plan and fill do not refuse, and the rest is the claim over the
 -- four calls (honest). Assumes nothing.
-use Prim.Native.Nat.{ℕ, _+_, _*_, _/_, _%_, _≤_, _<_}
+use Prim.Native.Nat.{ℕ, _*_, _/_, _%_, _≤_, _<_}
 use mathlib.Core.Path.{_≡_, refl, sym, ap, _∙_}
 use mathlib.Core.Bool.{Bool, true, false, cond}
 use mathlib.Core.List.{List, [], _∷_}
 use native.Mathlib.Omega.{arith}
 use borrow.Author.Tests.{ltb-false, le-ltb, eq-eqb, eqb-true, eqb-false}
 use lib.Dec.{eqb, ltb}
-use lib.ListN.{length, getD, drop, length-replicate}
-use lib.Seq.{getD-drop}
+use lib.ListN.{length, drop, length-replicate}
 use Rattle.words.specs.Limits.{maxRows, maxInput, maxPrintedRows}
 use Rattle.words.specs.Answers.{Answer, done, declined}
 use Rattle.words.specs.Refusals.{refusalNumber, declineIf, orElse}
@@ -19,11 +18,9 @@ use Rattle.words.specs.declared.Judgement.the-variants.{Fine, Declined}
 use Rattle.lists.specs.Lists.{U32List, used, judgeList}
 use Rattle.lists.specs.Heights.{listHeight}
 use Rattle.aet.specs.Heights.{paddedHeight, planAll}
-use Rattle.aet.specs.Recording.{After}
 use Rattle.aet.proofs.PaddedHeight.{padded-at-least, padded-positive}
 use Rattle.stored.specs.Stored.{readReason, readAs, readAll}
-use Rattle.stored.proofs.Reasons.{writable}
-use Rattle.round_trips.proofs.RoundTrips.{read-is, write-answered, read-writes-back}
+use Rattle.round_trips.proofs.RoundTrips.{read-list-fine}
 use Rattle.air.specs.Columns.{mainWidth, auxWidth, rowCount, tableShape}
 use Rattle.air.specs.Check.{checkAll}
 use Rattle.u32_table.specs.Filling.{fillReason, fillAll}
@@ -53,7 +50,7 @@ answer-done a e = ap (λ (n : ℕ). record { number = n; values = a .values }) e
 
 -- ---- a list that was read is admitted
 
-module _ (s : List ℕ) (bytes : (j : ℕ) → getD s j 0 < 256) where
+module _ (s : List ℕ) where
   read-fine : readAll unusedPlaces s .answer .number ≡ 0 → readReason unusedPlaces s ≡ Fine
   unfolding readAll
   read-fine e = go (readReason unusedPlaces s) refl e where
@@ -62,10 +59,7 @@ module _ (s : List ℕ) (bytes : (j : ℕ) → getD s j 0 < 256) where
     go (Declined reason) h e = absurd (eqb-false (refusalNumber reason) 0 (reason-not-zero reason) e)
 
   list-fine : readAll unusedPlaces s .answer .number ≡ 0 → judgeList (readAll unusedPlaces s .list) ≡ Fine
-  list-fine e =
-      let answered = ap (λ (a : After). a .answer) (read-is unusedPlaces s (read-fine e)) in
-      let again = read-writes-back unusedPlaces s s _ bytes answered (omega arith) in
-      writable (readAll unusedPlaces s .list) s (write-answered (readAll unusedPlaces s .list) s (length s) (again .answer)) .list
+  list-fine e = read-list-fine unusedPlaces s (read-fine e)
 
 -- ---- a table of as many rows as the padded height
 
@@ -126,18 +120,18 @@ list-plainly l challenges fine =
     (λ e.
     calls-plainly l fine challenges padded (padded-at-least (listHeight l)) (padded-positive (listHeight l)) (ltb-false maxPrintedRows padded e))
 
-read-plainly : (s challenges : List ℕ) → ((j : ℕ) → getD s j 0 < 256)
+read-plainly : (s challenges : List ℕ)
     → readText s challenges
     ≡ unlessRefused (readAll unusedPlaces s .answer)
     (plainList (readAll unusedPlaces s .list) challenges (listHeight (readAll unusedPlaces s .list))
     (paddedHeight (listHeight (readAll unusedPlaces s .list))))
 unfolding readText
-read-plainly s challenges bytes =
-    unless-same (readAll unusedPlaces s .answer) _ _ (λ e. list-plainly (readAll unusedPlaces s .list) challenges (list-fine s bytes e))
+read-plainly s challenges =
+    unless-same (readAll unusedPlaces s .answer) _ _ (λ e. list-plainly (readAll unusedPlaces s .list) challenges (list-fine s e))
 
-pub prints-plainly : (input : List ℕ) → ((j : ℕ) → getD input j 0 < 256) → transcriptOf input ≡ plainText input
+pub prints-plainly : (input : List ℕ) → transcriptOf input ≡ plainText input
 unfolding transcriptOf plainText
-prints-plainly input bytes =
+prints-plainly input =
     cond-same (ltb (length input) challengeBytes) _ _ _
     (λ _. cond-same (ltb maxInput (length input)) _ _ _
-    (λ _. read-plainly (drop challengeBytes input) (challengesIn input) (λ j. rw getD-drop (bytes (challengeBytes + j)))))
+    (λ _. read-plainly (drop challengeBytes input) (challengesIn input)))

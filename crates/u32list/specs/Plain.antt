@@ -30,7 +30,7 @@ unfoldable pub plainList : U32List → (challenges : List ℕ) → (height padde
 plainList l challenges height padded =
     cond (ltb maxPrintedRows padded) (refusedLine (refusalNumber Short)) (plainTable l challenges height padded)
 
--- "Input under 120 bytes prints `refused 1`, over 43,136 `refused 10`; then reading refuses"
+-- "Input under 120 bytes prints `refused 1`, over" 51,328 "`refused 10`; then reading refuses"
 unfoldable pub plainText : List ℕ → List ℕ
 plainText input =
     let reading = readAll unusedPlaces (drop challengeBytes input) in

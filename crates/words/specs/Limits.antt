@@ -9,14 +9,14 @@ maxPlaces = 2048
 abbrev pub maxRows : ℕ
 maxRows = 131072
 
--- "no multiplicity is above 2^32 − 1"
+-- "The limit becomes p − 1": no multiplicity is above it. This crate does not know p; lists/proofs/JudgedLists.antt: limit-is
 abbrev pub multiplicityLimit : ℕ
-multiplicityLimit = 4294967295
+multiplicityLimit = 18446744069414584320
 
--- the program reads "120 challenge bytes" and a stored list onto "2,048 places", 120 + 8 + 21 · 2,048 bytes in all; "over 43,136" is
--- refused with 10
+-- "51,328 bytes become the most input": the program reads "120 challenge bytes" and a stored list onto "2,048 places", 120 + 8 + 25 · 2,048 in
+-- all; more is refused with 10
 abbrev pub maxInput : ℕ
-maxInput = 43136
+maxInput = 51328
 
 -- "the byte lookup always has 256 rows": no padded height is below it
 abbrev pub minPaddedHeight : ℕ

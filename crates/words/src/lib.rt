@@ -15,8 +15,8 @@ pub const MAX_ROWS: usize = 131072;
 // The byte lookup's rows: no padded height is below it.
 pub const MIN_PADDED_HEIGHT: u64 = 256;
 
-// No multiplicity is above this.
-pub const MULTIPLICITY_LIMIT: u64 = 4294967295;
+// No multiplicity is above this: p − 1.
+pub const MULTIPLICITY_LIMIT: u64 = 18446744069414584320;
 
 // Document 01's "Reasons to decline", in its order.
 pub enum Refusal {

@@ -9,7 +9,10 @@ use twenty_first::prelude::*;
 use crate::port::{self, List};
 
 pub const MOST_PLACES: usize = 2048;
+/// Operands, but the base of pow.
 const MOST: u64 = (1 << 32) - 1;
+/// Multiplicities.
+const MOST_COUNT: u64 = P - 1;
 
 /// Document 01's numbers.
 const SHAPE: u64 = 1;
@@ -60,6 +63,8 @@ pub struct Counts {
     pub verdicts: [u64; 2],
     /// Changed, foreign and random tables that pass; those of them with exactly as many rows as the heights of their CopyFlag 1 rows.
     pub passing: [u64; 2],
+    /// Multiplicities past 32 bits: entries of admitted lists, and recordings of keys that have one.
+    pub large: [u64; 2],
     pub heights: u64,
     pub recordings: u64,
     pub orders: u64,
@@ -152,7 +157,7 @@ fn key_reason([opcode, lhs, rhs]: Key) -> Option<u64> {
 
 /// Document 01: the first of the reasons 2 to 5 for an entry.
 fn entry_reason(entry: &Entry) -> Option<u64> {
-    key_reason(entry.key).or((entry.multiplicity > MOST).then_some(COUNT_FULL))
+    key_reason(entry.key).or((entry.multiplicity > MOST_COUNT).then_some(COUNT_FULL))
 }
 
 fn has_repeats(list: &[Entry]) -> bool {
@@ -160,8 +165,8 @@ fn has_repeats(list: &[Entry]) -> bool {
     !list.iter().all(|entry| seen.insert(entry.key))
 }
 
-/// Document 01's stored form.
-fn stored(list: &[Entry], height: usize) -> Vec<u8> {
+/// Document 01's stored form, with multiplicities of 8 bytes, or of 4, the lower ones, as they were.
+fn stored(list: &[Entry], height: usize, width: usize) -> Vec<u8> {
     let mut bytes = vec![];
     bytes.extend((list.len() as u32).to_le_bytes());
     bytes.extend((height as u32).to_le_bytes());
@@ -170,7 +175,7 @@ fn stored(list: &[Entry], height: usize) -> Vec<u8> {
         bytes.extend(lhs.to_le_bytes());
         bytes.extend(rhs.to_le_bytes());
     }
-    list.iter().for_each(|entry| bytes.extend((entry.multiplicity as u32).to_le_bytes()));
+    list.iter().for_each(|entry| bytes.extend(&entry.multiplicity.to_le_bytes()[..width]));
     bytes
 }
 
@@ -288,7 +293,7 @@ impl Comparison {
             let answer = port::write(&list, &mut bytes);
             self.refused("write with a wrong shape", answer, SHAPE)?;
             agree("write, refused: bytes", &bytes, 7, bytes.iter().all(|&byte| byte == 7))?;
-            let answer = port::read(&stored(&[entry(14, 3, 1, 2)], 3), &mut list);
+            let answer = port::read(&stored(&[entry(14, 3, 1, 2)], 3, 8), &mut list);
             self.refused("read with a wrong shape", answer, SHAPE)?;
             agree("the list after refusals", &list, &before, list == before)?;
         }
@@ -321,6 +326,7 @@ impl Comparison {
         }
         self.counts.lists += 1;
         self.counts.entries += list.len() as u64;
+        self.counts.large[0] += list.iter().filter(|entry| entry.multiplicity > MOST).count() as u64;
 
         let height = theirs("height", || list_height(list))?;
         self.heights(list, &ours, height)?;
@@ -394,7 +400,7 @@ impl Comparison {
     /// Written, and read back. A stored list is not the original's: the bytes are compared with document 01's form.
     fn round_trip(&mut self, list: &[Entry], ours: &List, height: usize) -> Same {
         self.counts.round_trips += 1;
-        let bytes = stored(list, height);
+        let bytes = stored(list, height, 8);
         let old: Vec<u8> = old_words(bytes.len() + 5).iter().map(|&word| (word >> 8) as u8).collect();
         let mut out = old.clone();
         let answer = port::write(ours, &mut out);
@@ -421,11 +427,34 @@ impl Comparison {
         self.same("read: multiplicities", &fresh.multiplicities, &ours.multiplicities)?;
 
         self.unreadable("read, one byte fewer", &bytes[..bytes.len() - 1], ours.capacity, TORN)?;
-        self.unreadable("read, another height", &stored(list, height + 1), ours.capacity, TALLY)?;
+        self.unreadable("read, another height", &stored(list, height + 1, 8), ours.capacity, TALLY)?;
         if !list.is_empty() {
             self.unreadable("read, one place too few", &bytes, list.len() - 1, LIST_FULL)?;
+            self.old_form(list, ours.capacity, height)?;
         }
         Ok(())
+    }
+
+    /// Read from the old form, and written in the new one. A multiplicity has four bytes there: the lower ones.
+    fn old_form(&mut self, list: &[Entry], capacity: usize, height: usize) -> Same {
+        let list: Vec<Entry> = list.iter().map(|entry| Entry { multiplicity: entry.multiplicity & MOST, ..*entry }).collect();
+        let (old, new) = (stored(&list, height, 4), stored(&list, height, 8));
+        let mut fresh = arrays(&[], capacity);
+        let answer = port::read(&old, &mut fresh);
+        agree("read of the old form", answer, list.len(), answer == Ok([list.len() as u64]))?;
+        fresh.used = list.len();
+        let expected = arrays(&list, capacity);
+        self.same("read of the old form: keys", &fresh.keys, &expected.keys)?;
+        self.same("read of the old form: multiplicities", &fresh.multiplicities, &expected.multiplicities)?;
+        let mut out = vec![7; new.len()];
+        let answer = port::write(&fresh, &mut out[..old.len()]);
+        self.refused("write, as many bytes as the old form has", answer, SHORT)?;
+        let answer = port::write(&fresh, &mut out);
+        agree("write after the old form", answer, new.len(), answer == Ok([new.len() as u64]))?;
+        agree("write after the old form: bytes", &out, &new, out == new)?;
+        self.unreadable("read of the old form, one byte fewer", &old[..old.len() - 1], capacity, TORN)?;
+        self.unreadable("read of the old form, one byte more", &new[..old.len() + 1], capacity, TORN)?;
+        self.unreadable("read of the old form, another height", &stored(&list, height + 1, 4), capacity, TALLY)
     }
 
     /// Bytes that reading must refuse with this number, the list being as before.
@@ -447,14 +476,16 @@ impl Comparison {
         let filled = port::fill(ours, &mut table);
         self.refused("fill", filled, reason)?;
         self.untouched("fill, refused: table", &table, &old)?;
-        let mut out = vec![7; 8 + 21 * list.len()];
+        let mut out = vec![7; 8 + 25 * list.len()];
         let written = port::write(ours, &mut out);
         self.refused("write", written, reason)?;
         agree("write, refused: bytes", &out, 7, out.iter().all(|&byte| byte == 7))?;
-        // Stored, a multiplicity has four bytes and an opcode one.
-        let unreadable = list.iter().find_map(|entry| key_reason(entry.key));
-        if let Some(reason) = unreadable.filter(|_| list.iter().all(|entry| entry.key[0] < 256)) {
-            self.unreadable("read", &stored(list, 0), ours.capacity, reason)?;
+        // Stored, an opcode has one byte; in the old form a multiplicity has four, and is never too large.
+        if list.iter().all(|entry| entry.key[0] < 256) {
+            self.unreadable("read", &stored(list, 0, 8), ours.capacity, reason)?;
+            if let Some(reason) = list.iter().find_map(|entry| key_reason(entry.key)) {
+                self.unreadable("read of the old form", &stored(list, 0, 4), ours.capacity, reason)?;
+            }
         }
         self.refused_entry(entry, reason)
     }
@@ -659,8 +690,11 @@ impl Comparison {
                 // The original, on a copy of the list so far.
                 let after = record(&entries, &[key]);
                 let position = after.iter().position(|entry| entry.key == key)?;
+                let count = entries.get(position).map_or(0, |entry| entry.multiplicity);
+                self.counts.large[1] += (count >= MOST) as u64;
+                assert_eq!(count.wrapping_add(1), after[position].multiplicity, "the original counts in 64 bits");
                 match () {
-                    _ if after[position].multiplicity > MOST => Some(COUNT_FULL),
+                    _ if count >= MOST_COUNT => Some(COUNT_FULL),
                     _ if after.len() > capacity => Some(LIST_FULL),
                     _ => None,
                 }

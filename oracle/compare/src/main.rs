@@ -77,6 +77,10 @@ fn compare(seed: u64, size: Size) -> ExitCode {
             println!("NOT COMPARED (seed {seed}): rows against heights, {:?}", counts.passing);
             ExitCode::FAILURE
         }
+        None if counts.large.contains(&0) => {
+            println!("NOT COMPARED (seed {seed}): multiplicities past 32 bits, {:?}", counts.large);
+            ExitCode::FAILURE
+        }
         None => {
             println!("seed {seed} seconds {seconds} differences 0");
             ExitCode::SUCCESS
@@ -99,6 +103,7 @@ fn print_counts(counts: &Counts) {
         "rows against heights, of changed and foreign tables that pass {} as many rows as the heights {}",
         counts.passing[0], counts.passing[1]
     );
+    println!("multiplicities past 32 bits, entries {} recordings {}", counts.large[0], counts.large[1]);
     println!(
         "heights {} recordings {} orders {} written and read {} element operations {}",
         counts.heights, counts.recordings, counts.orders, counts.round_trips, counts.elements
@@ -201,7 +206,7 @@ impl Run {
         operands.sort();
         operands.dedup();
         let wide: Vec<u64> = (32..64).flat_map(around).chain([P / 2, P - 2, P - 1]).filter(|&base| base < P).collect();
-        let multiplicities: Vec<u64> = operands.clone();
+        let multiplicities: Vec<u64> = operands.iter().chain(&wide).copied().collect();
         let (few, last) = (operands.iter().step_by(size.edge_step).copied(), *operands.last()?);
         let mut operands: Vec<u64> = few.chain([0, 1, last]).collect();
         operands.sort();
@@ -296,7 +301,7 @@ fn challenges(random: &mut Random) -> Challenges {
     }
 }
 
-/// A list with an entry or two that document 01 does not admit.
+/// A list with an entry or two that document 01 does not admit, or whose multiplicity is at the limit.
 fn damaged_list(random: &mut Random) -> Case {
     let mut list = random.list(4);
     for _ in 0..=random.below(2) {
@@ -416,7 +421,7 @@ fn recordings(random: &mut Random) -> Case {
         let key = if random.below(2) == 0 { random.one_of(&keys) } else { random.key() };
         if list.iter().all(|entry| entry.key != key) {
             let any = random.operand();
-            let multiplicity = random.one_of(&[0, 1, (1 << 32) - 2, (1 << 32) - 1, any]);
+            let multiplicity = random.one_of(&[0, 1, (1 << 32) - 2, (1 << 32) - 1, 1 << 32, P - 2, P - 1, P, u64::MAX, any]);
             list.push(Entry { key, multiplicity });
         }
     }

@@ -68,14 +68,22 @@ fn words_of_p_or_more() {
     assert_eq!(None, verdict(&above));
 }
 
-/// Document 01: refused with 5. The original counts in 64 bits (and past them, from 0 again, without overflow checks).
+/// Up to p - 1 no difference any more, since request 9: the original counts in 64 bits, and so do we. At p we refuse with 5. The original
+/// counts on (past 64 bits from 0 again, without overflow checks), and its table has the count modulo p.
 #[test]
 fn multiplicities_past_32_bits() {
-    let most = entry(14, 3, 1, (1 << 32) - 1);
-    assert_eq!(vec![entry(14, 3, 1, 1 << 32)], record(&[most], &[most.key]));
-    assert_eq!(1 << 32, filled(&[entry(14, 3, 1, 1 << 32)])[0][9]);
+    let counted = |multiplicity| entry(14, 3, 1, multiplicity);
+    for most in [(1 << 32) - 1, 1 << 32, P - 2, P - 1, P] {
+        assert_eq!(vec![counted(most + 1)], record(&[counted(most)], &[[14, 3, 1]]));
+    }
+    for count in [(1 << 32) - 1, 1 << 32, P - 1] {
+        let rows = made(&[counted(count)], 1);
+        assert_eq!((count, None), (rows[0][9], verdict(&rows)));
+        assert_eq!(Some(&[count, 0, 0]), extend(&rows, &PLAIN).last());
+    }
+    assert_eq!(made(&[counted(0)], 1), made(&[counted(P)], 1));
     if !cfg!(debug_assertions) {
-        assert_eq!(vec![entry(14, 3, 1, 0)], record(&[entry(14, 3, 1, u64::MAX)], &[most.key]));
+        assert_eq!(vec![counted(0)], record(&[counted(u64::MAX)], &[[14, 3, 1]]));
     }
 }
 

@@ -44,7 +44,7 @@ returns c =
     let ms = args .multiplicities .now in
     let l = u32List z ks ms in
     let n = z .used in
-    put-form n (listHeight l) (17 * n) (keysForm (entryAt l) n) (countsForm (multiplicityAt l) n)
+    put-form n (listHeight l) (17 * n) (keysForm (entryAt l) n) (countsForm 8 (multiplicityAt l) n)
     (args .out .now) (put-le .last .0) (put-le2 .last .0) (put-entries .last .1 .1 .0) (put-multiplicities .last .1 .1 .0)
     (length-keys (entryAt l) n)
     (put-le .ensures)

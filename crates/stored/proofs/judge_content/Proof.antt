@@ -39,13 +39,12 @@ has-repeats-requires c κs = search needs
 
 returns : tie.Need-returns
 returns c =
-    let shared-slice-known = c .before .before .before .before .before .before .before .before .before .before .before .before .before .before .shared-slice-known in
     let pre = c .before .before .before .before .before .before .before .before .before .before .before .before .before .before .before .pre in
     let unpack = c .before .before .before .before .before .before .before .before .before .before .before .unpack in
     let judge-list = c .before .before .before .before .before .before .judge-list in
     let height = c .before .before .before .before .height in
     sym
-    (content-repeat _ _ _ _ _ _ (λ j. shared-slice-known .given j .fits) (pre .0) (pre .1) refl refl (unpack .ensures .0) (unpack .ensures .1)
+    (content-repeat _ _ _ _ _ _ (pre .0) (pre .1) refl refl (unpack .ensures .0) (unpack .ensures .1)
     (judged-height _ _ (sym (height .given .1) ∙ judge-list .ensures) .0) (sym (c .before .has-repeats .ensures _ _) ∙ c .if1 .taken))
 
 stored-height-requires : tie.Need-stored-height-requires
@@ -53,7 +52,6 @@ stored-height-requires c κs = search needs
 
 returns-2 : tie.Need-returns-2
 returns-2 c =
-    let shared-slice-known = c .before .before .before .before .before .before .before .before .before .before .before .before .before .before .before .before .shared-slice-known in
     let pre = c .before .before .before .before .before .before .before .before .before .before .before .before .before .before .before .before .before .pre in
     let unpack = c .before .before .before .before .before .before .before .before .before .before .before .before .before .unpack in
     let judge-list = c .before .before .before .before .before .before .before .before .judge-list in
@@ -61,22 +59,20 @@ returns-2 c =
     let has-repeats = c .before .before .before .has-repeats in
     let j = judged-height _ _ (sym (height .given .1) ∙ judge-list .ensures) in
     sym
-    (content-other _ _ _ _ _ _ (λ j. shared-slice-known .given j .fits) (pre .0) (pre .1) refl refl (unpack .ensures .0) (unpack .ensures .1)
+    (content-other _ _ _ _ _ _ (pre .0) (pre .1) refl refl (unpack .ensures .0) (unpack .ensures .1)
     (j .0) (sym (has-repeats .ensures _ _) ∙ c .before .before .if1 .left) (λ e. c .if2 .taken (c .before .stored-height .ensures ∙ e ∙ sym (j .1))))
 
 returns-3 : tie.Need-returns-3
 returns-3 c =
-    let shared-slice-known = c .before .before .before .before .before .before .before .before .before .before .before .shared-slice-known in
     let pre = c .before .before .before .before .before .before .before .before .before .before .before .before .pre in
     let unpack = c .before .before .before .before .before .before .before .before .unpack in
     let judge-list = c .before .before .before .judge-list in
     sym
-    (content-declined _ _ _ _ _ _ (λ j. shared-slice-known .given j .fits) (pre .0) (pre .1) refl refl (unpack .ensures .0) (unpack .ensures .1)
+    (content-declined _ _ _ _ _ _ (pre .0) (pre .1) refl refl (unpack .ensures .0) (unpack .ensures .1)
     (judged-refused _ _ (sym (c .before .reason .given .1) ∙ judge-list .ensures)))
 
 returns-4 : tie.Need-returns-4
 returns-4 c =
-    let shared-slice-known = c .before .before .before .before .before .before .before .before .before .before .before .before .before .before .before .before .shared-slice-known in
     let pre = c .before .before .before .before .before .before .before .before .before .before .before .before .before .before .before .before .before .pre in
     let unpack = c .before .before .before .before .before .before .before .before .before .before .before .before .before .unpack in
     let judge-list = c .before .before .before .before .before .before .before .before .judge-list in
@@ -84,7 +80,7 @@ returns-4 c =
     let has-repeats = c .before .before .before .has-repeats in
     let j = judged-height _ _ (sym (height .given .1) ∙ judge-list .ensures) in
     sym
-    (content-fine _ _ _ _ _ _ (λ j. shared-slice-known .given j .fits) (pre .0) (pre .1) refl refl (unpack .ensures .0) (unpack .ensures .1)
+    (content-fine _ _ _ _ _ _ (pre .0) (pre .1) refl refl (unpack .ensures .0) (unpack .ensures .1)
     (j .0) (sym (has-repeats .ensures _ _) ∙ c .before .before .if1 .left) (sym (c .before .stored-height .ensures) ∙ c .if2 .left ∙ j .1))
 
 pub judge-content-spec : {M : Type 1} → statement M

@@ -2,7 +2,7 @@
 use mathlib.Core.Path.{sym, _∙_}
 use native.Mathlib.Omega.{arith}
 use borrow.Author.Needs.{needs}
-use Rattle.stored.proofs.Reasons.{whole, read-shape, read-torn, read-full, read-content}
+use Rattle.stored.proofs.Reasons.{whole, whole-room, read-shape, read-torn, read-full, read-content}
 use Rattle.stored.proofs.judge_reading.Statement.{statement}
 use Rattle.stored.proofs.judge_reading.Tie as tie
 
@@ -55,7 +55,7 @@ judge-content-requires c κs =
     let enum-told2 = c .before .before .before .enum-told2 in
     let w = whole _ (sym (torn .ensures) ∙ enum-told2 .given .1) in
     let e = c .before .before .stored-n .ensures in
-    (e, omega arith, omega arith)
+    (e, omega arith, whole-room _ _ e w)
 
 returns-4 : tie.Need-returns-4
 returns-4 c =

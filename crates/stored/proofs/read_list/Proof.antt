@@ -3,7 +3,7 @@
 use mathlib.Core.Path.{sym, _∙_}
 use native.Mathlib.Omega.{arith}
 use borrow.Author.Needs.{needs}
-use Rattle.stored.proofs.Reasons.{readable, read-refused, read-done}
+use Rattle.stored.proofs.Reasons.{whole-room, readable, read-refused, read-done}
 use Rattle.stored.proofs.read_list.Statement.{statement}
 use Rattle.stored.proofs.read_list.Tie as tie
 
@@ -25,7 +25,7 @@ unpack-requires c κs =
     let enum-told = c .before .before .before .enum-told in
     let w = readable _ _ (sym (judge-reading .ensures) ∙ enum-told .given .1) in
     let e = c .before .before .stored-n .ensures in
-    ((e, omega arith, omega arith), (omega arith, omega arith))
+    ((e, omega arith, whole-room _ _ e (w .complete)), (omega arith, omega arith))
 
 same-length : tie.Need-same-length
 same-length c = search needs
