@@ -30,7 +30,7 @@ KIND = {
 # the columns: lists; entries and C calls; elements; the check; tables; text
 LANE = {
     "lists": 0, "aet": 0, "stored": 0, "round_trips": 0, "words": 1, "isa": 1, "packed": 1, "u32_table": 4, "extension": 4, "ffi_tables": 1, "ffi": 1,
-    "field": 2, "repeats": 2, "ffi_answers": 2, "ffi_lists": 2, "honest": 2, "xfield": 3, "air": 3, "layout": 3, "constraints": 3, "transitions": 3,
+    "field": 2, "repeats": 2, "ffi_answers": 2, "ffi_lists": 2, "honest": 2, "plain_rows": 2, "xfield": 3, "air": 3, "layout": 3, "constraints": 3, "transitions": 3,
     "searches": 3, "checker": 3, "results": 4, "sections": 4, "printed_example": 4, "text": 5, "transcript": 5, "u32list": 5,
 }  # fmt: skip
 

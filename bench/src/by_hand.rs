@@ -193,6 +193,20 @@ pub fn extend(table: &[B], aux: &mut [X], weights: &Weights) {
     }
 }
 
+/// The same with the judging that our contract demands, before the first sum is written: every word is below p, and no CopyFlag 1 row's
+/// denominator is zero.
+pub fn extend_judged(table: &[B], aux: &mut [X], weights: &Weights) -> bool {
+    let nothing = X::new([b(0); 3]);
+    if table.iter().any(|word| word.value() >= B::P) {
+        return false;
+    }
+    if table.chunks_exact(10).any(|row| row[FLAG] == b(1) && weights.denominator(row) == nothing) {
+        return false;
+    }
+    extend(table, aux, weights);
+    true
+}
+
 /// The adjugate over the norm: one inverse of a base element.
 pub fn ext_inverse(x: X) -> X {
     let [a, b, c] = x.coefficients;

@@ -1,5 +1,6 @@
 //! Times our calls and the original's, in one run, on the same inputs, in one thread. The best of several runs counts. Time is the
 //! thread's processor time, so that other work on the machine disturbs less.
+use std::cell::RefCell;
 use std::hint::black_box;
 
 use air::challenge_id::ChallengeId;
@@ -16,7 +17,7 @@ mod by_hand;
 mod port;
 
 use by_hand::{B, X};
-use port::List;
+use port::{EARLIER, Library, List, OURS};
 
 const P: u64 = oracle::P;
 const MOST_ENTRIES: usize = 2048;
@@ -50,6 +51,66 @@ fn best<const N: usize>(runs: usize, mut calls: [&mut dyn FnMut(); N]) -> [f64; 
     least
 }
 
+/// Milliseconds: ours, theirs, the ratio; and those of the earlier library and its ratio, where one is linked.
+fn line(name: &str, ours: f64, theirs: f64, earlier: Option<f64>) {
+    print!("{name} | {:.3} | {:.3} | {:.2}", ours * 1e3, theirs * 1e3, ours / theirs);
+    if let Some(earlier) = earlier {
+        print!(" | {:.3} | {:.2}", earlier * 1e3, earlier / theirs);
+    }
+    println!();
+}
+
+/// A table and its sums: one memory for all that is timed on them, since the pages alone can cost a tenth of the time.
+struct Table {
+    main: Array2<B>,
+    aux: Array2<X>,
+}
+
+/// The elements' memory as words: a base element is a word, an extension element three.
+fn words<T>(elements: &mut [T]) -> &mut [u64] {
+    const { assert!(align_of::<T>() == 8) };
+    // SAFETY: it is called on slices of B and X alone.
+    unsafe { std::slice::from_raw_parts_mut(elements.as_mut_ptr().cast(), size_of_val(elements) / 8) }
+}
+
+impl Table {
+    fn new(rows: usize) -> Self {
+        Self { main: Array2::zeros([rows, 10]), aux: Array2::zeros([rows, 1]) }
+    }
+
+    fn elements(&mut self) -> (&mut [B], &mut [X]) {
+        (self.main.as_slice_memory_order_mut().unwrap(), self.aux.as_slice_memory_order_mut().unwrap())
+    }
+
+    fn words(&mut self) -> (&mut [u64], &mut [u64]) {
+        let (main, aux) = self.elements();
+        (words(main), words(aux))
+    }
+
+    fn extend(&mut self, library: &Library, challenges: &[u64]) {
+        let (main, aux) = self.words();
+        library.extend(main, aux, challenges);
+    }
+
+    fn check(&mut self, library: &Library, challenges: &[u64]) -> bool {
+        let (main, aux) = self.words();
+        library.check(main, aux, challenges)
+    }
+
+    /// A table that passes and that `fill` does not make. LHS is p - 1 in all but the last 64 rows: modulo p that is twice itself and 1. In the
+    /// last ones it is halved down to 0. Bits counts on from 34, past 33.
+    fn foreign(rows: usize) -> Self {
+        let mut table = Self::new(rows);
+        let inverse = |x: u64| if x == 0 { 0 } else { B::new(x).inverse().value() };
+        for (i, row) in table.words().0.as_chunks_mut().0.iter_mut().enumerate() {
+            let halvings = (i + 65).saturating_sub(rows) as u32;
+            let lhs = (P - 1).checked_shr(halvings).unwrap_or(0);
+            *row = [0, 34 + i as u64, inverse(1 + i as u64), 4, lhs, inverse(lhs), 0, 0, 0, 0];
+        }
+        table
+    }
+}
+
 // The calls that are timed under names of their own, for `valgrind --tool=callgrind`.
 
 #[inline(never)]
@@ -70,6 +131,11 @@ fn original_extend(table: &Array2<B>, aux: &mut Array2<X>, challenges: &Challeng
 #[inline(never)]
 fn extend_by_hand(table: &[B], aux: &mut [X], weights: &by_hand::Weights) {
     by_hand::extend(table, aux, weights);
+}
+
+#[inline(never)]
+fn extend_judged_by_hand(table: &[B], aux: &mut [X], weights: &by_hand::Weights) {
+    assert!(by_hand::extend_judged(table, aux, weights));
 }
 
 #[inline(never)]
@@ -213,53 +279,83 @@ impl Inputs {
         let (challenges, weights) = (self.original_challenges(), by_hand::Weights::new(&self.challenges));
         let height = reach::height(&trace);
         let rows = height.next_power_of_two();
-        println!("\ncalls, {n} entries, height {height}, {rows} rows, ms | ours | original | ratio");
-        let line = |name: &str, [ours, theirs]: [f64; 2]| {
-            println!("{name} | {:.3} | {:.3} | {:.2}", ours * 1e3, theirs * 1e3, ours / theirs);
+        let columns = if EARLIER.is_some() { " | earlier | ratio" } else { "" };
+        println!("\ncalls, {n} entries, height {height}, {rows} rows, ms | ours | Rust | ratio{columns}");
+
+        let table = RefCell::new(Table::new(rows));
+        let [ours, theirs] = best(
+            runs,
+            [&mut || assert_eq!(height, port::fill(&list, table.borrow_mut().words().0)), &mut || {
+                original_fill(&mut table.borrow_mut().main, &trace)
+            }],
+        );
+        line("fill, the original", ours, theirs, None);
+        let [ours, theirs] = best(
+            runs,
+            [&mut || port::pad(table.borrow_mut().words().0, height), &mut || original_pad(&mut table.borrow_mut().main, height)],
+        );
+        line("pad, the original", ours, theirs, None);
+        let mut same = vec![0; 10 * rows];
+        port::fill(&list, &mut same);
+        port::pad(&mut same, height);
+        assert!(same == table.borrow_mut().words().0, "the tables differ");
+
+        let [ours, theirs, hand, judged, earlier] = best(
+            runs,
+            [
+                &mut || table.borrow_mut().extend(&OURS, &self.challenges),
+                &mut || {
+                    let Table { main, aux } = &mut *table.borrow_mut();
+                    original_extend(main, aux, &challenges);
+                },
+                &mut || {
+                    let mut table = table.borrow_mut();
+                    let (main, aux) = table.elements();
+                    extend_by_hand(main, aux, &weights);
+                },
+                &mut || {
+                    let mut table = table.borrow_mut();
+                    let (main, aux) = table.elements();
+                    extend_judged_by_hand(main, aux, &weights);
+                },
+                &mut || {
+                    if let Some(library) = &EARLIER {
+                        table.borrow_mut().extend(library, &self.challenges);
+                    }
+                },
+            ],
+        );
+        let earlier = EARLIER.map(|_| earlier);
+        line("extend, the original with elimination", ours, theirs, earlier);
+        line("extend, Rust by hand that judges as the contract demands", ours, judged, earlier);
+        line("extend, Rust by hand that judges nothing", ours, hand, earlier);
+        let mut table = table.into_inner();
+        let sums = |table: &mut Table, call: &dyn Fn(&mut Table)| {
+            call(table);
+            table.words().1.to_vec()
         };
+        let same = sums(&mut table, &|table| original_extend(&table.main, &mut table.aux, &challenges));
+        let hand = sums(&mut table, &|table| {
+            let (main, aux) = table.elements();
+            extend_by_hand(main, aux, &weights);
+        });
+        assert!(same == hand, "the sums by hand differ");
+        let ours = sums(&mut table, &|table| table.extend(&OURS, &self.challenges));
+        assert!(same == ours, "the sums differ");
 
-        let mut table = vec![0; 10 * rows];
-        let mut table_b = Array2::<B>::zeros([rows, 10]);
-        let times =
-            best(runs, [&mut || assert_eq!(height, port::fill(&list, &mut table)), &mut || original_fill(&mut table_b, &trace)]);
-        line("fill", times);
-        let times = best(runs, [&mut || port::pad(&mut table, height), &mut || original_pad(&mut table_b, height)]);
-        line("pad", times);
-        let same = (0..rows).all(|i| (0..10).all(|j| table[10 * i + j] == table_b[[i, j]].value()));
-        assert!(same, "the tables differ");
-
-        let mut aux = vec![0; 3 * rows];
-        let mut aux_x = Array2::<X>::zeros([rows, 1]);
-        let flat_b: Vec<B> = table.iter().map(|&word| B::new(word)).collect();
-        let mut flat_x = vec![X::new([B::new(0); 3]); rows];
-        let [ours, theirs, hand] = best(
-            runs,
-            [
-                &mut || port::extend(&table, &mut aux, &self.challenges),
-                &mut || original_extend(&table_b, &mut aux_x, &challenges),
-                &mut || extend_by_hand(&flat_b, &mut flat_x, &weights),
-            ],
-        );
-        line("extend", [ours, theirs]);
-        line("extend, Rust by hand", [ours, hand]);
-        let same = (0..rows).all(|i| aux[3 * i..3 * i + 3] == aux_x[[i, 0]].coefficients.map(|c| c.value()));
-        assert!(same, "the sums differ");
-
-        assert!((0..rows).all(|i| flat_x[i] == aux_x[[i, 0]]), "the sums by hand differ");
-        let [ours, hand, collected] = best(
-            runs,
-            [
-                &mut || assert!(port::check(&table, &aux, &self.challenges)),
-                &mut || assert!(check_by_hand(black_box(&flat_b), &flat_x, &weights)),
-                &mut || assert!(by_hand::check_collected(black_box(&flat_b), &flat_x, &weights)),
-            ],
-        );
-        line("check, Rust by hand", [ours, hand]);
-        line("check, Rust by hand, values in a vector", [ours, collected]);
+        let ours = self.check("check, an honest table, Rust by hand", &mut table, true, runs);
+        let (main, aux) = table.elements();
+        let [collected] = best(runs, [&mut || assert!(by_hand::check_collected(black_box(main), aux, &weights))]);
+        line("check, an honest table, Rust by hand, values in a vector", ours, collected, None);
         let constraints = oracle::Constraints::new();
-        let (rows_of, aux_of) = (table.as_chunks().0, aux.as_chunks().0);
+        let (main, aux) = table.words();
+        let (rows_of, aux_of) = (main.as_chunks().0, aux.as_chunks().0);
         let [tree] = best(1, [&mut || assert!(constraints.verdict(rows_of, aux_of, &self.challenges).is_none())]);
-        line("check, stand-in (walks a tree)", [ours, tree]);
+        line("check, an honest table, stand-in (walks a tree)", ours, tree, None);
+        // Result of the last row, which is padding after lt: 2 is right.
+        table.words().0[10 * rows - 2] -= 1;
+        self.check("check, the last row's Result wrong, Rust by hand", &mut table, false, runs);
+        self.check("check, a foreign table, every pair evaluated, Rust by hand", &mut Table::foreign(rows), true, runs);
 
         let mut bytes = vec![0; 8 + 25 * n];
         let mut fresh = list.clone();
@@ -268,24 +364,61 @@ impl Inputs {
         let [plan] = best(runs, [&mut || assert_eq!([height, rows], port::plan(&list))]);
         println!("write | {:.3} | |\nread | {:.3} | |\nplan | {:.4} | |", write * 1e3, read * 1e3, plan * 1e3);
 
-        let [ours, theirs] = best(
+        self.record("record, all entries, a hash map", &self.keys, runs);
+        let one_lhs: Vec<_> = (0..n as u64).map(|rhs| [30, 2, rhs]).collect();
+        self.record("record, as many keys with one LHS, a hash map", &one_lhs, runs);
+    }
+
+    /// The time of our check of a table that passes or not.
+    fn check(&self, name: &str, table: &mut Table, zero: bool, runs: usize) -> f64 {
+        let weights = by_hand::Weights::new(&self.challenges);
+        let table = RefCell::new(table);
+        let [ours, hand, earlier] = best(
             runs,
             [
+                &mut || assert_eq!(zero, table.borrow_mut().check(&OURS, &self.challenges)),
                 &mut || {
-                    let mut used = 0;
-                    self.keys.iter().for_each(|&key| used = port::record(&mut fresh, used, key));
-                    assert_eq!(n, used);
+                    let mut table = table.borrow_mut();
+                    let (main, aux) = table.elements();
+                    assert_eq!(zero, check_by_hand(black_box(main), aux, &weights));
                 },
                 &mut || {
+                    if let Some(library) = &EARLIER {
+                        assert_eq!(zero, table.borrow_mut().check(library, &self.challenges));
+                    }
+                },
+            ],
+        );
+        line(name, ours, hand, EARLIER.map(|_| earlier));
+        ours
+    }
+
+    /// The keys, one after the other, into an empty list.
+    fn record(&self, name: &str, keys: &[[u64; 3]], runs: usize) {
+        let places = RefCell::new(List { keys: vec![0; 3 * keys.len()], multiplicities: vec![0; keys.len()] });
+        let all = |library: &Library| {
+            let used = keys.iter().fold(0, |used, &key| library.record(&mut places.borrow_mut(), used, key));
+            assert_eq!(keys.len(), used);
+        };
+        let [ours, theirs, earlier] = best(
+            runs,
+            [
+                &mut || all(&OURS),
+                &mut || {
                     let mut trace = reach::empty_trace();
-                    for &[opcode, lhs, rhs] in &self.keys {
+                    for &[opcode, lhs, rhs] in keys {
                         reach::record(&mut trace, U32TableEntry::new(opcode.try_into().unwrap(), B::new(lhs), B::new(rhs)));
                     }
                     black_box(&trace);
                 },
+                &mut || {
+                    if let Some(library) = &EARLIER {
+                        all(library);
+                    }
+                },
             ],
         );
-        line("record, all entries, one after the other", [ours, theirs]);
+        line(name, ours, theirs, EARLIER.map(|_| earlier));
     }
 
     // -------------------------------------------------------------------------------------------------------------------- growth
@@ -309,8 +442,8 @@ impl Inputs {
         let mut height = 0;
         let [fill] = best(runs, [&mut || height = port::fill(&list, &mut table)]);
         let [pad] = best(runs, [&mut || port::pad(&mut table, height)]);
-        let [extend] = best(runs, [&mut || port::extend(&table, &mut aux, &self.challenges)]);
-        let [check] = best(runs, [&mut || assert!(port::check(&table, &aux, &self.challenges))]);
+        let [extend] = best(runs, [&mut || OURS.extend(&table, &mut aux, &self.challenges)]);
+        let [check] = best(runs, [&mut || assert!(OURS.check(&table, &aux, &self.challenges))]);
         let [write] = best(runs, [&mut || assert_eq!(8 + 25 * n, port::write(&list, &mut bytes))]);
         let mut fresh = list.clone();
         let [read] = best(runs, [&mut || assert_eq!(n, port::read(&bytes, &mut fresh))]);

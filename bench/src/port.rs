@@ -1,4 +1,4 @@
-//! The C functions of crates/ffi and crates/probes, on slices.
+//! The C functions of crates/ffi and crates/probes, on slices; and record, extend and check of an earlier library, where one is linked.
 mod c {
     unsafe extern "C" {
         pub fn u32_table_record(
@@ -80,6 +80,67 @@ mod c {
     }
 }
 
+#[cfg(earlier)]
+mod earlier {
+    unsafe extern "C" {
+        pub fn earlier_u32_table_record(
+            c: usize,
+            u: usize,
+            k: *mut u64,
+            n: usize,
+            m: *mut u64,
+            p: usize,
+            o: u64,
+            l: u64,
+            r: u64,
+            a: *mut u64,
+            w: usize,
+        ) -> u64;
+        pub fn earlier_u32_table_extend(
+            t: *const u64,
+            l: usize,
+            x: *mut u64,
+            n: usize,
+            c: *const u64,
+            m: usize,
+            a: *mut u64,
+            w: usize,
+        ) -> u64;
+        pub fn earlier_u32_table_check(
+            t: *const u64,
+            l: usize,
+            x: *const u64,
+            n: usize,
+            c: *const u64,
+            m: usize,
+            a: *mut u64,
+            w: usize,
+        ) -> u64;
+    }
+}
+
+type Record = unsafe extern "C" fn(usize, usize, *mut u64, usize, *mut u64, usize, u64, u64, u64, *mut u64, usize) -> u64;
+type Extend = unsafe extern "C" fn(*const u64, usize, *mut u64, usize, *const u64, usize, *mut u64, usize) -> u64;
+type Check = unsafe extern "C" fn(*const u64, usize, *const u64, usize, *const u64, usize, *mut u64, usize) -> u64;
+
+/// The calls that are timed in two libraries.
+pub struct Library {
+    record: Record,
+    extend: Extend,
+    check: Check,
+}
+
+pub const OURS: Library = Library { record: c::u32_table_record, extend: c::u32_table_extend, check: c::u32_table_check };
+
+#[cfg(earlier)]
+pub const EARLIER: Option<Library> = Some(Library {
+    record: earlier::earlier_u32_table_record,
+    extend: earlier::earlier_u32_table_extend,
+    check: earlier::earlier_u32_table_check,
+});
+#[cfg(not(earlier))]
+pub const EARLIER: Option<Library> = None;
+
 #[derive(Clone)]
 pub struct List {
     pub keys: Vec<u64>,
@@ -96,24 +157,60 @@ fn done(number: u64) {
     assert_eq!(0, number, "refused");
 }
 
-pub fn record(list: &mut List, used: usize, key: [u64; 3]) -> usize {
-    let (mut answers, capacity) = ([0; 2], list.capacity());
-    done(unsafe {
-        c::u32_table_record(
-            capacity,
-            used,
-            list.keys.as_mut_ptr(),
-            list.keys.len(),
-            list.multiplicities.as_mut_ptr(),
-            capacity,
-            key[0],
-            key[1],
-            key[2],
-            answers.as_mut_ptr(),
-            2,
-        )
-    });
-    answers[1] as usize
+impl Library {
+    pub fn record(&self, list: &mut List, used: usize, key: [u64; 3]) -> usize {
+        let (mut answers, capacity) = ([0; 2], list.capacity());
+        done(unsafe {
+            (self.record)(
+                capacity,
+                used,
+                list.keys.as_mut_ptr(),
+                list.keys.len(),
+                list.multiplicities.as_mut_ptr(),
+                capacity,
+                key[0],
+                key[1],
+                key[2],
+                answers.as_mut_ptr(),
+                2,
+            )
+        });
+        answers[1] as usize
+    }
+
+    pub fn extend(&self, table: &[u64], aux: &mut [u64], challenges: &[u64]) {
+        let mut answers = [0; 3];
+        done(unsafe {
+            (self.extend)(
+                table.as_ptr(),
+                table.len(),
+                aux.as_mut_ptr(),
+                aux.len(),
+                challenges.as_ptr(),
+                challenges.len(),
+                answers.as_mut_ptr(),
+                3,
+            )
+        });
+    }
+
+    /// Whether all constraints are zero.
+    pub fn check(&self, table: &[u64], aux: &[u64], challenges: &[u64]) -> bool {
+        let mut answers = [0; 7];
+        done(unsafe {
+            (self.check)(
+                table.as_ptr(),
+                table.len(),
+                aux.as_ptr(),
+                aux.len(),
+                challenges.as_ptr(),
+                challenges.len(),
+                answers.as_mut_ptr(),
+                7,
+            )
+        });
+        answers[0] == 0
+    }
 }
 
 /// Height and padded height.
@@ -185,40 +282,6 @@ pub fn fill(list: &List, table: &mut [u64]) -> usize {
 
 pub fn pad(table: &mut [u64], filled: usize) {
     done(unsafe { c::u32_table_pad(table.as_mut_ptr(), table.len(), filled) });
-}
-
-pub fn extend(table: &[u64], aux: &mut [u64], challenges: &[u64]) {
-    let mut answers = [0; 3];
-    done(unsafe {
-        c::u32_table_extend(
-            table.as_ptr(),
-            table.len(),
-            aux.as_mut_ptr(),
-            aux.len(),
-            challenges.as_ptr(),
-            challenges.len(),
-            answers.as_mut_ptr(),
-            3,
-        )
-    });
-}
-
-/// Whether all constraints are zero.
-pub fn check(table: &[u64], aux: &[u64], challenges: &[u64]) -> bool {
-    let mut answers = [0; 7];
-    done(unsafe {
-        c::u32_table_check(
-            table.as_ptr(),
-            table.len(),
-            aux.as_ptr(),
-            aux.len(),
-            challenges.as_ptr(),
-            challenges.len(),
-            answers.as_mut_ptr(),
-            7,
-        )
-    });
-    answers[0] == 0
 }
 
 pub fn products(left: &[u64], right: &[u64], out: &mut [u64]) {

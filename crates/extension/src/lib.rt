@@ -1,12 +1,13 @@
 // Extension: the sum over a table's CopyFlag 1 rows, so far at each row, stored in the aux words. All is judged before the first aux word is
 // written.
 ghost use mathlib.Core.Path.{_≡_};
+ghost use mathlib.Core.Bool.{true};
 ghost use Prim.Native.Nat.{_+_, _*_, _≤_};
 ghost use lib.ListN.{length};
 ghost use lib.Seq.{sets};
 ghost use Rattle.xfield.specs.XFieldElements.{extOf};
 ghost use Rattle.xfield.proofs.Inverses.{invX};
-ghost use Rattle.air.specs.Columns.{mainWidth, auxWidth, rowAt, rowCount};
+ghost use Rattle.air.specs.Columns.{mainWidth, auxWidth, rowAt, rowCount, allReduced};
 ghost use Rattle.air.specs.Challenges.{challengeWords, rowDenominator};
 ghost use Rattle.air.specs.RunningSum.{addSummand, denominatorOk, denominatorsOk, summandAt, lookupSum};
 ghost use Rattle.layout.specs.Layouts.{rowOf, challengesIn};
@@ -63,11 +64,42 @@ fn denominators_ok(table: &[u64], challenges: &[u64]) -> bool
     true
 }
 
-// Reasons 1, 8 and 9, in this order. Old aux words are not looked at.
+// Yes: every word of the table is below p, and nothing is against the denominator of any row. One pass over the rows for both.
+fn are_rows_fine(table: &[u64], challenges: &[u64]) -> bool
+    requires { ⌜ challengeWords ≤ length (now challenges) ⌝ }
+    ensures { λ r. ⌜ (r ≡ true → (allReduced (now (table .entry)) ≡ true) × (denominatorsOk (summandAt (now (table .entry)) (now (challenges .entry))) (rowCount (now (table .entry))) ≡ true)) ⌝ }
+{
+    if table.len() % MainRow::WIDTH != 0 {
+        return false;
+    }
+    let elements = Challenges::from_words(challenges);
+    let rows = table.len() / MainRow::WIDTH;
+    let mut row: usize = 0;
+    while row < rows {
+        if !layout::are_ten_reduced(table, MainRow::WIDTH * row) {
+            return false;
+        }
+        if !denominator_ok(table, row, elements) {
+            return false;
+        }
+        row += 1;
+    }
+    true
+}
+
+// Reasons 1, 8 and 9, in this order. Old aux words are not looked at. Where one pass finds nothing against the rows, there is none; else each
+// reason is asked for.
 fn judge(table: &[u64], aux: &[u64], challenges: &[u64]) -> Judgement
     ensures { λ r. ⌜ r ≡ extendReason (now (table .entry)) (now (aux .entry)) (now (challenges .entry)) ⌝ }
 {
     let shapes = layout::have_shapes(table, aux, challenges);
+    if shapes {
+        if layout::all_reduced(challenges) {
+            if are_rows_fine(table, challenges) {
+                return Judgement::Fine;
+            }
+        }
+    }
     let reduced = layout::are_reduced(table, challenges);
     if !shapes {
         return Judgement::Declined(Refusal::Shape);

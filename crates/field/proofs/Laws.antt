@@ -86,6 +86,15 @@ pub subF-small : (a b : ℕ) → b ≤ a → a < p → subF a b ≡ a - b
 unfolding subF
 subF-small a b l h = omega arith
 
+-- a number and a word more, less the number, is the word, and less twice a number likewise
+pub subF-more : (a r : ℕ) → r < p → subF (a + r) a ≡ r
+unfolding subF
+subF-more a r l = omega arith
+
+pub subF-double : (a r : ℕ) → r < p → subF (2 * a + r) (mulF 2 a) ≡ r
+unfolding subF mulF
+subF-double a r l = omega arith
+
 -- and below 0 a difference comes back from p
 pub subF-wraps : (a b : ℕ) → a < b → b < p → subF a b ≡ p - (b - a)
 unfolding subF
@@ -153,13 +162,10 @@ pub bit-law : (x y b : ℕ) → x < p → y < 2 ^ 32 → b ≤ 1 → subF x (mul
 unfolding subF mulF
 bit-law x y b lx ly lb e = omega arith
 
-pub bit-of : (y b : ℕ) → y < 2 ^ 32 → b ≤ 1 → subF (2 * y + b) (mulF 2 y) ≡ b
+-- the bit that leaves a number that is halved
+pub bit-of-half : (x : ℕ) → subF x (mulF 2 (x / 2)) ≡ x % 2
 unfolding subF mulF
-bit-of y b ly lb = omega arith
-
-pub bit-of-half : (x : ℕ) → x < 2 ^ 33 → subF x (mulF 2 (x / 2)) ≡ x % 2
-unfolding subF mulF
-bit-of-half x l = omega arith
+bit-of-half x = omega arith
 
 -- ---- a product is 0 only where a factor is
 pub no-zero-divisors : (a b : ℕ) → mulF a b ≡ 0 → (a % p ≡ 0) ⊎ (b % p ≡ 0)

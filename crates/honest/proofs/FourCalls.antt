@@ -32,7 +32,8 @@ use Rattle.u32_table.specs.Extending.{elementWords, sumWords, extendReason, ext
 use Rattle.u32_table.proofs.ListSections.{words-length}
 use Rattle.honest.specs.FourCalls.{tableRowsTo, copyFlag1, copyFlag1Rows, firstRows, sumFrom, extendRefusals, AfterFill, paddedTable}
 use Rattle.honest.specs.FourCalls.{extendedAux, NoneRefuses, Honest}
-use Rattle.honest.proofs.HonestRows.{HonestRow, flag-bit, reduced, consistent}
+use Rattle.plain_rows.proofs.PlainRows.{flag-bit}
+use Rattle.honest.proofs.HonestRows.{HonestRow, reduced, consistent}
 use Rattle.honest.proofs.Steps.{end-terminal}
 use Rattle.honest.proofs.RowLists.{each-map, each-at, last-at, below-at, words-rows, words-reduced, row-of-words, rows-of-words}
 use Rattle.honest.proofs.Tables.{Chain, front, padded-chain, padded-first-rows}

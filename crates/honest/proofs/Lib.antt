@@ -1,4 +1,3 @@
-pub mod Products
 pub mod Results
 pub mod HonestRows
 pub mod Steps

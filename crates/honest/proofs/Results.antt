@@ -19,6 +19,8 @@ use Rattle.isa.proofs.Logarithm.{floor-log2-half, floor-log2-one, floor-log2-be
 use Rattle.isa.proofs.PlainLaws.{lt-bit, lt-same, lt-step, lt-step-same, and-zero-left, and-left, and-step-bits, pow-zero}
 use Rattle.isa.proofs.PlainLaws.{pow-step-zero, pow-step-one}
 use Rattle.isa.proofs.PlainLaws.{one-bits-zero, one-bits-step, one-bits-le, result-below}
+use Rattle.plain_rows.specs.Plain.{LtEqual, LtCarried, known-0, known-1, bits-01, bits-10, bits-same}
+use Rattle.plain_rows.proofs.Steps.{low-bit}
 use Rattle.results.specs.declared.Choice.the-variants.{Value}
 use Rattle.results.specs.Results.{ending, carry, carryLt, carryLog2Floor, carryPow, carryAnd, carryPopCount}
 use Rattle.sections.specs.Sections.{nextLhs}
@@ -76,13 +78,6 @@ bit-below x = omega arith
 halved : (x : ℕ) → 2 * (x / 2) + x % 2 ≡ x
 halved x = omega arith
 
-pub low-bit : (x : ℕ) → (x % 2 ≡ 0) ⊎ (x % 2 ≡ 1)
-low-bit x = go (ℕ-discrete (x % 2) 0)
-  where
-    go : Dec (x % 2 ≡ 0) → (x % 2 ≡ 0) ⊎ (x % 2 ≡ 1)
-    go (yes e) = inl e
-    go (no n) = inr (omega arith)
-
 -- ---- lt
 module _ (copyFlag : ℕ) {lhs rhs : ℕ} where
   pub lt-differ : lhs ≢ rhs → ltResult copyFlag lhs rhs ≡ plainLt lhs rhs
@@ -105,15 +100,7 @@ lt-10 : plainLt 1 0 ≡ 0
 unfolding plainLt
 lt-10 = refl
 
--- what the row below tells: its Result, and with it this row's
-pub data LtCarried (copyFlag lhs rhs below result : ℕ) : Type 0 where
-  known-0 : below ≡ 0 → result ≡ 0 → LtCarried copyFlag lhs rhs below result
-  known-1 : below ≡ 1 → result ≡ 1 → LtCarried copyFlag lhs rhs below result
-  bits-01 : below ≡ 2 → lhs % 2 ≡ 0 → rhs % 2 ≡ 1 → result ≡ 1 → LtCarried copyFlag lhs rhs below result
-  bits-10 : below ≡ 2 → lhs % 2 ≡ 1 → rhs % 2 ≡ 0 → result ≡ 0 → LtCarried copyFlag lhs rhs below result
-  bits-same : below ≡ 2 → lhs % 2 ≡ rhs % 2 → ((copyFlag ≡ 1) × (result ≡ 0)) ⊎ ((copyFlag ≡ 0) × (result ≡ 2))
-      → LtCarried copyFlag lhs rhs below result
-
+-- what the row below tells, and with it this row's Result
 module _ (copyFlag lhs rhs : ℕ) (flag : (copyFlag ≡ 0) ⊎ (copyFlag ≡ 1)) where
   lt-halves : (e : lhs / 2 ≢ rhs / 2) → plainLt lhs rhs ≡ plainLt (lhs / 2) (rhs / 2)
   lt-halves n =
@@ -131,8 +118,7 @@ module _ (copyFlag lhs rhs : ℕ) (flag : (copyFlag ≡ 0) ⊎ (copyFlag ≡ 1))
   pub lt-carried : Carried
   lt-carried = halves (ℕ-discrete (lhs / 2) (rhs / 2))
     where
-      same : (copyFlag ≡ 0) ⊎ (copyFlag ≡ 1) → lhs ≡ rhs
-          → ((copyFlag ≡ 1) × (ltResult copyFlag lhs rhs ≡ 0)) ⊎ ((copyFlag ≡ 0) × (ltResult copyFlag lhs rhs ≡ 2))
+      same : (copyFlag ≡ 0) ⊎ (copyFlag ≡ 1) → lhs ≡ rhs → LtEqual copyFlag (ltResult copyFlag lhs rhs)
       same (inl f) e = inr (f, lt-equal-below copyFlag f e)
       same (inr f) e = inl (f, lt-equal-first copyFlag f e)
 
@@ -205,12 +191,12 @@ carry-log-of {lhs = lhs} (more-bits n d e) = rw (ne-eqb lhs 0 n, ne-eqb (lhs / 2
 
 -- ---- and
 module _ (lhs rhs : ℕ) where
-  and-halves : plainAnd lhs rhs ≡ 2 * plainAnd (lhs / 2) (rhs / 2) + lhs % 2 * (rhs % 2)
+  pub and-halves : plainAnd lhs rhs ≡ 2 * plainAnd (lhs / 2) (rhs / 2) + lhs % 2 * (rhs % 2)
   and-halves =
       ap₂ plainAnd (sym (halved lhs)) (sym (halved rhs))
       ∙ and-step-bits (lhs / 2) (rhs / 2) (lhs % 2) (rhs % 2) (bit-below lhs) (bit-below rhs)
 
-  pub carry-and-is : lhs < p → carryAnd lhs rhs (plainAnd (lhs / 2) (rhs / 2)) ≡ plainAnd lhs rhs
+  carry-and-is : lhs < p → carryAnd lhs rhs (plainAnd (lhs / 2) (rhs / 2)) ≡ plainAnd lhs rhs
   unfolding carryAnd
   carry-and-is h =
       let whole = and-halves in

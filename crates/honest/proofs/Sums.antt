@@ -14,7 +14,7 @@ use borrow.Author.Tests.{lt-ltb, ltb-true, ltb-false, eq-eqb}
 use Rattle.field.specs.Elements.{p, subF}
 use Rattle.xfield.specs.Extension.{Ext, zeroX, liftX, addX, subX, mulX, scaleX, HasInverse, Reduced, isZeroX}
 use Rattle.xfield.proofs.Inverses.{invX}
-use Rattle.xfield.proofs.Laws.{zeroX-reduced, addX-reduced, addX-zero-left, subX-self, scaleX-is, scaleX-zero, mulX-zero-right}
+use Rattle.xfield.proofs.Laws.{zeroX-reduced, addX-reduced, addX-zero-left, subX-self}
 use Rattle.xfield.proofs.Laws.{liftX-word, sum-stepped, sum-started}
 use Rattle.air.specs.Columns.{Row, rowAt, auxAt, elementAt, allReduced}
 use Rattle.air.specs.Challenges.{Challenges, challengesOf, rowDenominator}
@@ -26,16 +26,11 @@ use Rattle.air.proofs.RunningSums.{adds-nothing, adds-share}
 use Rattle.u32_table.specs.Extending.{elementWords, sumWords}
 use Rattle.extension.specs.Extensions.{summandOf}
 use Rattle.honest.specs.FourCalls.{tableRowsTo, copyFlag1, noneZero, sumFrom}
-use Rattle.honest.proofs.Products.{same-zero}
+use Rattle.plain_rows.proofs.Products.{same-zero}
+use Rattle.plain_rows.proofs.Sums.{scale-zero, zero-scale, sum-stays, sum-accumulates}
 use Rattle.honest.proofs.RowLists.{flagged-join}
 
 -- ---- a row and the sums before it and with it
-scale-zero : (k : ℕ) {x : Ext} → x ≡ zeroX → scaleX k x ≡ zeroX
-scale-zero k {x} e = scaleX-is k x ∙ ap (mulX (liftX k)) e ∙ mulX-zero-right (liftX k)
-
-zero-scale : {k : ℕ} (x : Ext) → k ≡ 0 → scaleX k x ≡ zeroX
-zero-scale x e = ap (λ (k : ℕ). scaleX k x) e ∙ scaleX-zero x
-
 module _ (c : Challenges) (row : Row) (sum : Ext) (bit : (row .copyFlag ≡ 0) ⊎ (row .copyFlag ≡ 1)) (m : row .lookupMultiplicity < p)
     (invertible : row .copyFlag ≡ 1 → HasInverse (rowDenominator c row)) where
   abbrev next : Ext
@@ -45,24 +40,16 @@ module _ (c : Challenges) (row : Row) (sum : Ext) (bit : (row .copyFlag ≡ 0) �
   base-is = sym (liftX-word (row .lookupMultiplicity) m)
 
   pub next-sum-zero : SumZero c row sum next
-  unfolding
-      Poly.«if_copy_flag_next_is_0_then_running_sum_log_derivative_stays»
-      Poly.«if_copy_flag_next_is_1_then_running_sum_log_derivative_accumulates_next_row»
+  unfolding Poly.«if_copy_flag_next_is_1_then_running_sum_log_derivative_accumulates_next_row»
   next-sum-zero = go bit
     where
       go : (row .copyFlag ≡ 0) ⊎ (row .copyFlag ≡ 1) → SumZero c row sum next
-      go (inl f) = record {
-        «if_copy_flag_next_is_0_then_running_sum_log_derivative_stays» =
-            scale-zero (subF (row .copyFlag) 1) (ap (λ (x : Ext). subX x sum) (adds-nothing sum (summandOf c row) f) ∙ subX-self sum);
-        «if_copy_flag_next_is_1_then_running_sum_log_derivative_accumulates_next_row» = zero-scale _ f;
-      }
-      go (inr f) = record {
-        «if_copy_flag_next_is_0_then_running_sum_log_derivative_stays» = zero-scale _ (same-zero f);
-        «if_copy_flag_next_is_1_then_running_sum_log_derivative_accumulates_next_row» =
-            scale-zero (row .copyFlag)
-            (ap₂ (λ (x v : Ext). subX (mulX (subX x sum) (rowDenominator c row)) v) (adds-share sum (summandOf c row) f) base-is
-            ∙ sum-stepped (row .lookupMultiplicity) (rowDenominator c row) sum (invertible f));
-      }
+      go (inl f) = sum-stays c row sum next f (sym (adds-nothing sum (summandOf c row) f))
+      go (inr f) =
+          sum-accumulates c row sum next f
+          (scale-zero (row .copyFlag)
+          (ap₂ (λ (x v : Ext). subX (mulX (subX x sum) (rowDenominator c row)) v) (adds-share sum (summandOf c row) f) base-is
+          ∙ sum-stepped (row .lookupMultiplicity) (rowDenominator c row) sum (invertible f)))
 
 module _ (c : Challenges) (row : Row) (bit : (row .copyFlag ≡ 0) ⊎ (row .copyFlag ≡ 1)) (m : row .lookupMultiplicity < p)
     (invertible : row .copyFlag ≡ 1 → HasInverse (rowDenominator c row)) where

@@ -1,21 +1,68 @@
 // The rows of the U32 table and its challenges, as types over the flat words that are lent.
 ghost use mathlib.Core.Path.{_≡_};
-ghost use mathlib.Core.Bool.{_&&_};
+ghost use mathlib.Core.Bool.{true, _&&_};
 ghost use Prim.Native.Nat.{_+_, _*_, _≤_};
 ghost use lib.ListN.{length};
 ghost use Rattle.xfield.specs.XFieldElements.{extOf};
 ghost use Rattle.air.specs.Columns.{mainWidth, auxWidth, rowAt, elementAt, auxAt, tableShape, auxShape, allReduced};
 ghost use Rattle.air.specs.Challenges.{challengeWords, challengesOf, challengesShape, denominator};
 ghost use Rattle.layout.specs.Layouts.{rowOf, sumOf, challengesIn};
+ghost use Rattle.layout.specs.Tens.{TenBelow};
 use field::BFieldElement;
 use words::MAX_ROWS;
 use xfield::XFieldElement;
 
-// Every word is below p.
+// Yes: the ten words from `at` on are below p.
+pub fn are_ten_reduced(words: &[u64], at: usize) -> bool
+    requires { ⌜ at + 10 ≤ length (now words) ⌝ }
+    ensures { λ r. ⌜ (r ≡ true → TenBelow (now (words .entry)) at) ⌝ }
+{
+    if BFieldElement::P <= words[at] {
+        return false;
+    }
+    if BFieldElement::P <= words[at + 1] {
+        return false;
+    }
+    if BFieldElement::P <= words[at + 2] {
+        return false;
+    }
+    if BFieldElement::P <= words[at + 3] {
+        return false;
+    }
+    if BFieldElement::P <= words[at + 4] {
+        return false;
+    }
+    if BFieldElement::P <= words[at + 5] {
+        return false;
+    }
+    if BFieldElement::P <= words[at + 6] {
+        return false;
+    }
+    if BFieldElement::P <= words[at + 7] {
+        return false;
+    }
+    if BFieldElement::P <= words[at + 8] {
+        return false;
+    }
+    if BFieldElement::P <= words[at + 9] {
+        return false;
+    }
+    true
+}
+
+// Every word is below p: ten at a time, up to ten that get a no, or to the last ten; from there one by one.
 pub fn all_reduced(words: &[u64]) -> bool
     ensures { λ r. ⌜ r ≡ allReduced (now (words .entry)) ⌝ }
 {
-    let mut i = 0;
+    let tens = words.len() / 10;
+    let mut ten = 0;
+    while ten < tens {
+        if !are_ten_reduced(words, 10 * ten) {
+            break;
+        }
+        ten += 1;
+    }
+    let mut i = 10 * ten;
     while i < words.len() {
         if BFieldElement::P <= words[i] {
             return false;

@@ -1,18 +1,22 @@
 -- What a search finds. find-hit, find-miss and find-none are its steps, for a loop that goes from place i to n. find-within, find-holds and
 -- find-first say what the place is: the first used one that holds the key, or `used` where none does. Assumes nothing.
-use Prim.Native.Nat.{ℕ, zero, suc, _+_, _-_, _≤_, _<_}
-use mathlib.Core.Path.{_≡_, refl, subst}
+use Prim.Native.Nat.{ℕ, zero, suc, _+_, _*_, _-_, _≤_, _<_}
+use mathlib.Core.Path.{_≡_, refl, ap, _∙_, subst}
 use mathlib.Core.Bool.{Bool, true, false, _&&_}
-use mathlib.Core.Logic.{⊎-elim}
+use mathlib.Core.Logic.{_≢_, ⊎-elim}
+use mathlib.Core.List.{List}
 use native.Mathlib.Nat.{eq-or-lt-of-le}
 use native.Mathlib.Omega.{arith}
 use native.Mathlib.Numerals.{add-one}
 use lib.Dec.{eqb}
-use borrow.Author.Tests.{eqb-true, eq-eqb}
+use lib.ListN.{getD}
+use borrow.Author.Count.{below-none, below-more}
+use borrow.Author.Tests.{eqb-true, eq-eqb, ne-eqb}
 use Rattle.isa.specs.declared.U32TableEntry.{U32TableEntry}
 use Rattle.isa.specs.Entries.{lhs, rhs, entry}
 use Rattle.lists.specs.Lists.{U32List, used, keyAt}
 use Rattle.lists.specs.Keys.{sameKey, findFrom, findKey}
+use Rattle.lists.specs.Eights.{EightDiffer}
 
 -- ---- equal keys
 
@@ -79,6 +83,46 @@ module _ (l : U32List) (e : U32TableEntry) where
         (λ (q : i ≡ j). subst (λ (x : ℕ). sameKey (keyAt l x) e ≡ false) q s)
         (λ (q : i < j). rest q (rw s at b))
         (eq-or-lt-of-le a)
+
+-- ---- eight places with another LHS are passed at once
+
+module _ (l : U32List) (e : U32TableEntry) where
+  find-misses : (k i n : ℕ) → i + k ≤ n → ((j : ℕ) → j < k → sameKey (keyAt l (i + j)) e ≡ false)
+      → findFrom l e i (n - i) ≡ findFrom l e (i + k) (n - (i + k))
+  find-misses zero i n h f = ap (λ (j : ℕ). findFrom l e j (n - j)) (omega arith)
+  find-misses (suc k) i n h f =
+      find-misses k i n (omega arith) (λ j b. f j (omega arith))
+      ∙ find-miss l e (i + k) n (omega arith) (f k (omega arith))
+      ∙ ap (λ (j : ℕ). findFrom l e j (n - j)) (omega arith)
+
+  other-lhs : (i : ℕ) → getD (l .keys) (3 * i + 1) 0 ≢ lhs e → sameKey (keyAt l i) e ≡ false
+  unfolding sameKey keyAt
+  other-lhs i h = go (eqb (getD (l .keys) (3 * i) 0) (e .opcode)) _ _ (ne-eqb _ _ h)
+    where
+      go : (t s r : Bool) → s ≡ false → (t && (s && r)) ≡ false
+      go true s r d = rw d
+      go false s r d = refl
+
+  pub find-eight : (i next n : ℕ) → i + 8 ≡ next → next ≤ n → EightDiffer (l .keys) i (lhs e)
+      → findFrom l e i (n - i) ≡ findFrom l e next (n - next)
+  unfolding EightDiffer
+  find-eight i next n q h d =
+      find-misses 8 i n (omega arith) (λ j b. other-lhs (i + j) (d j b)) ∙ ap (λ (j : ℕ). findFrom l e j (n - j)) q
+
+pub eight-differ : (keys : List ℕ) (i lhs : ℕ)
+    → getD keys (3 * i + 1) 0 ≢ lhs → getD keys (3 * i + 4) 0 ≢ lhs → getD keys (3 * i + 7) 0 ≢ lhs → getD keys (3 * i + 10) 0 ≢ lhs
+    → getD keys (3 * i + 13) 0 ≢ lhs → getD keys (3 * i + 16) 0 ≢ lhs → getD keys (3 * i + 19) 0 ≢ lhs → getD keys (3 * i + 22) 0 ≢ lhs
+    → EightDiffer keys i lhs
+unfolding EightDiffer
+eight-differ keys i lhs a b c d e f g h =
+    below-more P 7 (below-more P 6 (below-more P 5 (below-more P 4 (below-more P 3 (below-more P 2 (below-more P 1 (below-more P 0
+    (below-none P) (at 0 a)) (at 1 b)) (at 2 c)) (at 3 d)) (at 4 e)) (at 5 f)) (at 6 g)) (at 7 h)
+  where
+    P : ℕ → Type 0
+    P k = getD keys (3 * (i + k) + 1) 0 ≢ lhs
+
+    at : (k : ℕ) → getD keys (3 * i + (3 * k + 1)) 0 ≢ lhs → P k
+    at k n = subst (λ (j : ℕ). getD keys j 0 ≢ lhs) (omega arith) n
 
 -- ---- the first used place
 

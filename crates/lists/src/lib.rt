@@ -1,5 +1,6 @@
 // Lists of entries with their multiplicities, judged. A list is its sizes, its keys, three words a place, and its multiplicities, one a place.
 ghost use mathlib.Core.Path.{_≡_};
+ghost use mathlib.Core.Bool.{true};
 ghost use Prim.Native.Nat.{ℕ, _+_, _*_, _≤_, _<_};
 ghost use mathlib.Core.List.{List, [], _∷_};
 ghost use lib.ListN.{length};
@@ -8,6 +9,7 @@ ghost use Rattle.isa.specs.Entries.{lhs, rhs};
 ghost use Rattle.lists.specs.Lists.{u32List, keyAt, listShape};
 ghost use Rattle.lists.specs.Heights.{judgedList};
 ghost use Rattle.lists.specs.Keys.{sameKey, findFrom};
+ghost use Rattle.lists.specs.Eights.{EightDiffer};
 use isa::Admission;
 use isa::U32TableEntry;
 use words::Judgement;
@@ -83,12 +85,54 @@ pub fn same_key(a: U32TableEntry, b: U32TableEntry) -> bool
     false
 }
 
-// The first of the first n places that holds the key, or n where none does.
+// Yes: the eight places from i on have another LHS.
+fn do_eight_differ(keys: &[u64], i: usize, left_operand: u64) -> bool
+    requires { ⌜ 3 * (i + 8) ≤ length (now keys) ⌝ }
+    ensures { λ r. ⌜ (r ≡ true → EightDiffer (now (keys .entry)) i «left_operand») ⌝ }
+{
+    let at = 3 * i;
+    if keys[at + 1] == left_operand {
+        return false;
+    }
+    if keys[at + 4] == left_operand {
+        return false;
+    }
+    if keys[at + 7] == left_operand {
+        return false;
+    }
+    if keys[at + 10] == left_operand {
+        return false;
+    }
+    if keys[at + 13] == left_operand {
+        return false;
+    }
+    if keys[at + 16] == left_operand {
+        return false;
+    }
+    if keys[at + 19] == left_operand {
+        return false;
+    }
+    if keys[at + 22] == left_operand {
+        return false;
+    }
+    true
+}
+
+// The first of the first n places that holds the key, or n where none does: eight at a time, up to eight that get a no, or to the last eight;
+// from there one by one.
 pub fn find(keys: &[u64], n: usize, key: U32TableEntry) -> usize
     requires { ⌜ 3 * n ≤ length (now keys) ⌝ }
     ensures { λ r. ⌜ ((s : Sizes) (ms : List ℕ) → r ≡ findFrom (u32List s (now (keys .entry)) ms) key 0 n) ⌝ }
 {
-    let mut i: usize = 0;
+    let eights = n / 8;
+    let mut eight: usize = 0;
+    while eight < eights {
+        if !do_eight_differ(keys, 8 * eight, key.left_operand) {
+            break;
+        }
+        eight += 1;
+    }
+    let mut i: usize = 8 * eight;
     while i < n {
         if same_key(key_at(keys, i), key) {
             return i;

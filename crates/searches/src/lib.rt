@@ -36,7 +36,7 @@ pub fn initial(table: &[u64], aux: &[u64], challenges: &[u64]) -> Found
     Found::Nothing
 }
 
-// Consistency, row by row.
+// Consistency, row by row. A row that gets a yes from the test is passed; any other is evaluated.
 pub fn consistency(table: &[u64]) -> Found
     ensures { λ r. ⌜ ((next : Answer) → followedBy r next ≡ firstInRows (consistencyAt (now (table .entry))) 1 0 (rowCount (now (table .entry))) next) ⌝ }
 {
@@ -46,7 +46,12 @@ pub fn consistency(table: &[u64]) -> Found
         if row == rows {
             break 'rows Found::Nothing;
         }
-        let values = constraints::consistency_constraints(MainRow::at(table, row));
+        let current = MainRow::at(table, row);
+        if plain_rows::is_plain_row(current) {
+            row += 1;
+            continue 'rows;
+        }
+        let values = constraints::consistency_constraints(current);
         let mut index = 0;
         while index < 15 {
             let value = values[index];
@@ -59,7 +64,7 @@ pub fn consistency(table: &[u64]) -> Found
     }
 }
 
-// Transition, pair by pair.
+// Transition, pair by pair. A pair that gets a yes from the test is passed; any other is evaluated.
 pub fn transition(table: &[u64], aux: &[u64], challenges: &[u64]) -> Found
     requires { ⌜ (0 < rowCount (now table)) × ((auxWidth * rowCount (now table) ≤ length (now aux)) × (challengeWords ≤ length (now challenges))) ⌝ }
     ensures { λ r. ⌜ ((next : Answer) → followedBy r next ≡ firstInRows (transitionAt (now (table .entry)) (now (aux .entry)) (now (challenges .entry))) 2 0 (rowCount (now (table .entry)) - 1) next) ⌝ }
@@ -71,13 +76,15 @@ pub fn transition(table: &[u64], aux: &[u64], challenges: &[u64]) -> Found
         if upper == pairs {
             break 'pairs Found::Nothing;
         }
-        let values = transitions::transition_constraints(
-            weights,
-            MainRow::at(table, upper),
-            MainRow::at(table, upper + 1),
-            AuxRow::at(aux, upper),
-            AuxRow::at(aux, upper + 1),
-        );
+        let row = MainRow::at(table, upper);
+        let row_next = MainRow::at(table, upper + 1);
+        let sum = AuxRow::at(aux, upper);
+        let sum_next = AuxRow::at(aux, upper + 1);
+        if plain_rows::is_plain_pair(weights, row, row_next, sum, sum_next) {
+            upper += 1;
+            continue 'pairs;
+        }
+        let values = transitions::transition_constraints(weights, row, row_next, sum, sum_next);
         let mut index = 0;
         while index < 22 {
             let value = values[index];

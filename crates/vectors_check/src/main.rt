@@ -1,9 +1,12 @@
 // Runs the stored vectors of the check: honest, damaged and foreign tables, and all refusals. Standard input has a call a line
-// (tools/vectors.py); what is printed is how many tables were found zero, nonzero or refused, and how many answers differ.
+// (tools/vectors.py); what is printed is how many tables were found zero, nonzero or refused, how many answers differ, and how many of the forty
+// constraints were the first nonzero one of some table.
 use checker::Verdict;
 use libc::STDIN_FILENO;
 use vectors::part;
+use vectors::print_count;
 use vectors::print_tally;
+use vectors::print_text;
 use vectors::same_words;
 use vectors::tally;
 
@@ -46,6 +49,29 @@ fn kind_of(number: u64, nonzero: u64) -> usize {
     if 0 < nonzero { 2 } else { 1 }
 }
 
+// The constraints of the four groups, 32 places each, stand in the counts from here on.
+const FIRSTS: usize = 128;
+
+// Notes the first constraint that is not zero.
+fn note(counts: &mut [u64; 512], group: u64, index: u64) {
+    if group < 4 {
+        if index < 32 {
+            counts[FIRSTS + 32 * group as usize + index as usize] = 1;
+        }
+    }
+}
+
+// How many constraints were noted.
+fn noted(counts: &[u64; 512]) -> u64 {
+    let mut n: u64 = 0;
+    let mut i = FIRSTS;
+    while i < 256 {
+        n = std::num::wrapping_add_u64(n, counts[i]);
+        i += 1;
+    }
+    n
+}
+
 // A line: table, aux, challenges, and the eight numbers of the verdict that is wanted.
 fn check(text: &[u8], from: usize, counts: &mut [u64; 512]) -> usize {
     let mut table = [0u64; 1024];
@@ -62,6 +88,9 @@ fn check(text: &[u8], from: usize, counts: &mut [u64; 512]) -> usize {
     let mut wanted = [0u64; 8];
     let next = vectors::numbers(text, weights.next, &mut wanted, 8);
     let kind = kind_of(got[0], got[1]);
+    if kind == 2 {
+        note(counts, got[2], got[4]);
+    }
     tally(counts, kind, got[0], same_words(&got, &wanted, 8));
     next
 }
@@ -88,4 +117,6 @@ fn main() {
     print_tally(b"zero", &counts, 1);
     print_tally(b"nonzero", &counts, 2);
     print_tally(b"refused", &counts, 3);
+    print_count(b"first nonzero constraints", noted(&counts));
+    print_text(b"\n");
 }

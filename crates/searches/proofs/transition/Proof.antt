@@ -1,7 +1,7 @@
 -- `searches::transition` meets its contract. The invariants: the whole search is the search from this pair, or from this value of
 -- this pair, on, whatever follows it. The measures are the pairs and the values that are left. Assumes nothing.
 use Prim.Native.Nat.{ℕ, _+_, _-_, _≤_, _<_}
-use mathlib.Core.Path.{_≡_, refl, sym, _∙_}
+use mathlib.Core.Path.{_≡_, refl, sym, _∙_, subst}
 use mathlib.Core.List.{map}
 use native.Mathlib.Nat.{sub-zero}
 use native.Mathlib.Omega.{arith}
@@ -9,9 +9,11 @@ use lib.ListN.{length, drop}
 use Rattle.words.specs.Answers.{Answer}
 use Rattle.xfield.specs.XFieldElements.{extOf}
 use Rattle.air.specs.Constraints.{transitionConstraints}
-use Rattle.air.specs.Check.{transitionAt, firstIn, firstInRows}
+use Rattle.xfield.specs.Extension.{Ext}
+use mathlib.Core.List.{List}
+use Rattle.air.specs.Check.{AllZero, transitionAt, firstIn, firstInRows}
 use Rattle.air.proofs.Lists.{transition-length}
-use Rattle.air.proofs.Scan.{row-next, rows-done}
+use Rattle.air.proofs.Scan.{row-next, rows-done, values-zero}
 use Rattle.searches.proofs.Steps.{all-passed, passed, found}
 use Rattle.searches.proofs.transition.Statement.{statement}
 use Rattle.searches.proofs.transition.Tie as tie
@@ -62,9 +64,31 @@ add-at-2 c = omega (arith, c .before .before .before .before .before .before .be
 at-requires-4 : tie.Need-at-requires-4 Inv-loop μ-loop Inv-pairs μ-pairs
 at-requires-4 c κs = omega (arith, c .before .before .before .before .before .before .before .before .before .pre)
 
+add-upper : tie.Need-add-upper Inv-loop μ-loop Inv-pairs μ-pairs
+add-upper c = omega (arith, c .before .before .before .before .before .before .before .before .before .before .before .before .good .0 .0)
+
+pairs-less : tie.Need-pairs-less Inv-loop μ-loop Inv-pairs μ-pairs
+pairs-less c = omega arith
+
+-- a pair that is seen to meet its constraints is passed
+pairs-again : tie.Need-pairs-again Inv-loop μ-loop Inv-pairs μ-pairs
+pairs-again c =
+    let c1 = c .before in let c2 = c1 .before in let c3 = c2 .before in let c4 = c3 .before in let c5 = c4 .before in
+    let at = c5 .before .before .pairs in
+    let weights = c5 .before .before .before .from-words .ensures in
+    let upper = c5 .at .ensures in
+    let lower = c4 .at2 .ensures in
+    let sum = c3 .at3 .ensures in
+    let sum-next = c2 .at4 .ensures in
+    let zero = subst (λ (vs : List Ext). AllZero vs)
+    (λ i. transitionConstraints (weights i) (upper i) (lower i) (sum i) (sum-next i))
+    (c1 .is-plain-pair .ensures (c .if2 .taken))
+    in
+    (omega arith, λ next. at .inv .1 next ∙ row-next _ 2 (at .upper) _ next (omega arith) ∙ values-zero 2 (at .upper) 0 _ zero)
+
 loop-holds : tie.Need-loop-holds Inv-loop μ-loop Inv-pairs μ-pairs
 loop-holds c =
-    let c1 = c .before in let c2 = c1 .before in let c3 = c2 .before in let c4 = c3 .before in
+    let c1 = c .before .before .before in let c2 = c1 .before in let c3 = c2 .before in let c4 = c3 .before in
     let at = c4 .before .before .pairs in
     let weights = c4 .before .before .before .from-words .ensures in
     let upper = c4 .at .ensures in
@@ -98,17 +122,17 @@ loop-again c =
       omega arith,
       at .inv .2,
       λ next. at .inv .3 next
-          ∙ passed 2 _ _ (transition-length _ _ _ _ _) (at .index) _ values (at .inv .2) (omega arith) (c .before .is-zero .ensures) (c .if2 .left),
+          ∙ passed 2 _ _ (transition-length _ _ _ _ _) (at .index) _ values (at .inv .2) (omega arith) (c .before .is-zero .ensures) (c .if3 .left),
     )
 
-add-upper : tie.Need-add-upper Inv-loop μ-loop Inv-pairs μ-pairs
-add-upper c = omega (arith, c .before .before .before .before .before .before .before .before .before .before .before .before .before .good .0 .0)
+add-upper-2 : tie.Need-add-upper-2 Inv-loop μ-loop Inv-pairs μ-pairs
+add-upper-2 c = omega (arith, c .before .before .before .before .before .before .before .before .before .before .before .before .before .before .before .good .0 .0)
 
-pairs-less : tie.Need-pairs-less Inv-loop μ-loop Inv-pairs μ-pairs
-pairs-less c = omega arith
+pairs-less-2 : tie.Need-pairs-less-2 Inv-loop μ-loop Inv-pairs μ-pairs
+pairs-less-2 c = omega arith
 
-pairs-again : tie.Need-pairs-again Inv-loop μ-loop Inv-pairs μ-pairs
-pairs-again c =
+pairs-again-2 : tie.Need-pairs-again-2 Inv-loop μ-loop Inv-pairs μ-pairs
+pairs-again-2 c =
     let at = c .before .loop in
     (omega arith, λ next. at .inv .3 next ∙ all-passed 2 _ _ (transition-length _ _ _ _ _) (at .index) _ (c .loop-test .left))
 
@@ -122,7 +146,7 @@ returns-2 c =
     let values = c4 .before .transition-constraints .result in
     λ next. sym
     (at .inv .3 next
-    ∙ found 2 _ _ (transition-length _ _ _ _ _) (at .index) _ values (at .inv .2) (omega arith) (c .before .is-zero .ensures) (c .if2 .taken))
+    ∙ found 2 _ _ (transition-length _ _ _ _ _) (at .index) _ values (at .inv .2) (omega arith) (c .before .is-zero .ensures) (c .if3 .taken))
 
 pub transition-spec : {M : Type 1} → statement M
 transition-spec =
@@ -142,6 +166,10 @@ transition-spec =
     add-at-2
     at-requires-4
     (λ c κs. tt)
+    add-upper
+    pairs-less
+    pairs-again
+    (λ c κs. tt)
     loop-holds
     mul-value
     array-copy-out-value
@@ -149,8 +177,8 @@ transition-spec =
     add-index
     loop-less
     loop-again
-    add-upper
-    pairs-less
-    pairs-again
+    add-upper-2
+    pairs-less-2
+    pairs-again-2
     returns
     returns-2)

@@ -1,20 +1,19 @@
 -- Where a product of words is zero: where a factor is. And the factors of the constraints that are: a deselector at another opcode of the
--- six, 1 − x · inverse at the inverse of x, a difference of equal words. `zs` finds the factor in a product of many.
-use Prim.Native.Nat.{ℕ, _+_, _<_}
+-- six, a difference of equal words. `zs` finds the factor in a product of many. Assumes nothing.
+use Prim.Native.Nat.{ℕ}
 use mathlib.Core.Path.{_≡_, refl, ap, ap₂, _∙_}
 use mathlib.Core.Logic.{_≢_, _⊎_, inl, inr}
 use mathlib.Core.Bool.{Bool, true, false}
 use mathlib.Core.List.{List, [], _∷_}
-use native.Mathlib.Omega.{arith}
 use native.Mathlib.Decide.{ℕ-discrete}
 use lib.Dec.{eqb}
 use borrow.Author.Tests.{eqb-true}
-use Rattle.field.specs.Elements.{p, addF, subF, mulF, invF}
+use Rattle.field.specs.Elements.{addF, subF, mulF}
 use Rattle.field.proofs.Ring.{var, con, _:+_, _:*_, _:-_, solve}
 use Rattle.field.proofs.RingLaws.{𝔹}
-use Rattle.field.proofs.Laws.{mulF-zero-left, mulF-zero-right, subF-self, subF-small, word-not-zero, one-minus-product}
+use Rattle.field.proofs.Laws.{mulF-zero-left, mulF-zero-right, subF-self}
 use Rattle.isa.proofs.Entries.{OneOfSix}
-use Rattle.air.specs.Constraints.{instructions, deselectFrom, instructionDeselector, oneMinusProduct, equalBits}
+use Rattle.air.specs.Constraints.{instructions, deselectFrom, instructionDeselector, equalBits}
 
 -- ---- a factor 0
 pub zero-factor : {a : ℕ} (b : ℕ) → a ≡ 0 → mulF a b ≡ 0
@@ -35,12 +34,6 @@ IsBit x = (x ≡ 0) ⊎ (x ≡ 1)
 pub bit-product : {x : ℕ} → IsBit x → (u : ℕ) → mulF (mulF u x) (subF x 1) ≡ 0
 bit-product (inl e) u = zero-factor _ (factor-zero u e)
 bit-product (inr e) u = factor-zero _ (same-zero e)
-
--- ---- one more
-pub one-more : {y : ℕ} (x : ℕ) → y ≡ x + 1 → y < p → subF (subF y x) 1 ≡ 0
-one-more {y} x e h =
-    let d : subF y x ≡ 1 = subF-small y x (omega arith) h ∙ omega arith in
-    same-zero d
 
 -- ---- a sum less both its parts
 pub less-both : (u v : ℕ) → subF (subF (addF u v) u) v ≡ 0
@@ -90,15 +83,6 @@ selected-or-zero selected ci k = go (ℕ-discrete ci selected)
     go : Dec (ci ≡ selected) → (ci ≡ selected) ⊎ (instructionDeselector selected ci ≡ 0)
     go (yes e) = inl e
     go (no n) = inr (deselect-among 1 instructions selected ci n (among ci k))
-
--- ---- 1 − x · inverse
-pub zero-or-marked : {x i : ℕ} → x < p → i ≡ invF x → (x ≡ 0) ⊎ (oneMinusProduct x i ≡ 0)
-unfolding oneMinusProduct
-zero-or-marked {x} {i} l e = go (ℕ-discrete x 0)
-  where
-    go : Dec (x ≡ 0) → (x ≡ 0) ⊎ (oneMinusProduct x i ≡ 0)
-    go (yes z) = inl z
-    go (no n) = inr (ap (oneMinusProduct x) e ∙ one-minus-product x (word-not-zero l n))
 
 -- ---- 1 − l − r + 2 l r is 0 where two bits differ
 pub differ-01 : {l r : ℕ} → l ≡ 0 → r ≡ 1 → equalBits l r ≡ 0

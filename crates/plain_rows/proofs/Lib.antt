@@ -1,0 +1,4 @@
+pub mod Products
+pub mod PlainRows
+pub mod Steps
+pub mod Sums
