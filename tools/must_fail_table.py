@@ -17,7 +17,7 @@ SHAPE_ONLY = ("that can be named from here", "is not in scope")
 
 HEAD = """# Must-fail edits
 
-Each line is a wrong program that the prover refuses, and the fact that fails first. An edit keeps the code's shape, so what fails is a fact and not
+Each line is a wrong program, or a wrong definition, that the prover refuses, and the fact that fails first. An edit keeps the code's shape, so what fails is a fact and not
 the fit of a proof. The gate tries those of the folders `must-fail` and fails if the prover accepts one; those of `must-fail-more`, marked with +, are tried
 by `tests/must-fail-more`, so that the gate stays short. Made by `tools/must_fail_table.py`.
 

@@ -6,7 +6,7 @@
 //! made the table.
 //!
 //! Every call takes any input at all: it does the work, or it answers a [`Refusal`] and has changed nothing. The functions behind are
-//! proved to do so, to stay within what they are lent, and to end; this crate adds no logic of its own, and no call of it panics.
+//! proved to do so, to stay within what they are lent, and to end; this crate adds no logic of its own.
 //!
 //! ```
 //! # fn main() -> Result<(), u32_table::Refusal> {

@@ -1,2 +1,1 @@
-// The AIR of the U32 table.
-pub const MAIN_WIDTH: usize = 10;
+// The AIR of the U32 table: definitions and theory alone.

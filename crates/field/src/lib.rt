@@ -1,5 +1,5 @@
 // Base elements: numbers modulo p = 2^64 - 2^32 + 1. Every function here takes any 64-bit content and answers below p; each
-// contract is one equation, to the operation's definition in specs/Elements.antt.
+// contract is one equation, to the operation's definition in specs/Elements.antt, with a condition where a table or an inverse is handed in.
 ghost use mathlib.Core.Path.{_≡_};
 ghost use Prim.Native.Nat.{_+_, _*_, _/_, _%_, _^_};
 ghost use Rattle.field.specs.Elements.{p, addF, subF, negF, mulF, invF, isZeroF, equalF};

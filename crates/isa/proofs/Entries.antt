@@ -1,5 +1,5 @@
--- Laws of entries: what admission tells of the entry that it hands back, its height, how heights fall as operands are halved, and that
--- comparing tells entries apart. They are said of `admitted e` and of what `judgeEntry` finds, so that callers need not know which entry
+-- Laws of entries: what admission tells of the entry that it hands back, its height, and how heights fall as operands are halved
+-- (Comparing.antt has the laws of order). They are said of `admitted e` and of what `judgeEntry` finds, so that callers need not know which entry
 -- admission hands back.
 use mathlib.Core.Path.{_≡_, refl, sym, ap, _∙_}
 use mathlib.Core.Bool.{Bool, true, false, cond, not, _&&_, _||_}

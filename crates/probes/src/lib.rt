@@ -1,6 +1,8 @@
 // C functions onto the insides of the library, for bench/ and for the comparison with the Rust in oracle/compare: the value of every
 // constraint on a pair of rows, and element operations by the array. Each answers 0, or 1 where a lent array has not the length that it
 // asks for; nothing is written then.
+ghost use mathlib.Core.Path.{_≡_};
+ghost use Rattle.probes.specs.Probes.{answered, written, productsFit, productsOf, chainOf, inversesFit, inversesOf};
 use field::BFieldElement;
 use layout::AuxRow;
 use layout::Challenges;
@@ -93,7 +95,11 @@ pub extern "C" fn probe_constraints(
 
 // ---- elements
 #[no_mangle]
-pub extern "C" fn probe_products(left: &[u64], right: &[u64], out: &mut [u64]) -> u64 {
+pub extern "C" fn probe_products(left: &[u64], right: &[u64], out: &mut [u64]) -> u64
+    ensures answer { λ r. ⌜ r ≡ answered (productsFit (now (left .entry)) (now (right .entry)) (now (out .entry))) ⌝ }
+    ensures products { λ _. ⌜ now (out .exit) ≡ written (productsFit (now (left .entry)) (now (right .entry)) (now (out .entry)))
+        (productsOf (now (left .entry)) (now (right .entry))) (now (out .entry)) ⌝ }
+{
     if left.len() != out.len() {
         return 1;
     }
@@ -110,7 +116,9 @@ pub extern "C" fn probe_products(left: &[u64], right: &[u64], out: &mut [u64]) -
 
 // `start`, times `factor` as often as `times` says: each product waits for the one before.
 #[no_mangle]
-pub extern "C" fn probe_chain(start: u64, factor: u64, times: u64) -> u64 {
+pub extern "C" fn probe_chain(start: u64, factor: u64, times: u64) -> u64
+    ensures { λ r. ⌜ r ≡ chainOf start factor times ⌝ }
+{
     let mut x = BFieldElement(start);
     let mut i: u64 = 0;
     while i < times {
@@ -122,7 +130,11 @@ pub extern "C" fn probe_chain(start: u64, factor: u64, times: u64) -> u64 {
 
 // The inverse of each word, 0 for 0.
 #[no_mangle]
-pub extern "C" fn probe_inverses(words: &[u64], out: &mut [u64]) -> u64 {
+pub extern "C" fn probe_inverses(words: &[u64], out: &mut [u64]) -> u64
+    ensures answer { λ r. ⌜ r ≡ answered (inversesFit (now (words .entry)) (now (out .entry))) ⌝ }
+    ensures inverses { λ _. ⌜ now (out .exit) ≡ written (inversesFit (now (words .entry)) (now (out .entry)))
+        (inversesOf (now (words .entry))) (now (out .entry)) ⌝ }
+{
     if words.len() != out.len() {
         return 1;
     }

@@ -62,7 +62,7 @@ openingText n height padded table sum = headLine n height padded ++ (rowLines ta
 unfoldable pub resultText : (n height padded : ℕ) → (table sum verdict : List ℕ) → List ℕ
 resultText n height padded table sum verdict = openingText n height padded table sum ++ verdictLine verdict
 
--- The four calls in a row, each on what the one before answered or left, and what they lead to. The check:
+-- The four calls in a row, each on what the one before left, and what they lead to; pad is given the plan's height. The check:
 unfoldable pub checkedText : (n height padded : ℕ) → (table aux challenges sum : List ℕ) → List ℕ
 checkedText n height padded table aux challenges sum =
     let verdict = checkAll table aux challenges in

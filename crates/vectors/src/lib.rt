@@ -1,7 +1,9 @@
 // Reading the numbers of a vector file, and counting what a run of vectors finds. A vector file is decimal numbers with anything
 // else between them.
 ghost use Prim.Native.Nat.{_≤_};
+ghost use mathlib.Core.Path.{_≡_};
 ghost use lib.ListN.{length};
+ghost use Rattle.vectors.specs.Same.{sameFirst};
 use libc::STDOUT_FILENO;
 
 // A number, and the place after it. Where there is none left, the value is 0 and the place the text's length.
@@ -139,7 +141,9 @@ pub fn bytes(text: &[u8], from: usize, out: &mut [u8], count: usize) -> usize {
 }
 
 // Whether the first `count` bytes of both are the same; a byte past an end differs.
-pub fn same_bytes(a: &[u8], b: &[u8], count: usize) -> bool {
+pub fn same_bytes(a: &[u8], b: &[u8], count: usize) -> bool
+    ensures { λ r. ⌜ r ≡ sameFirst count (now (a .entry)) (now (b .entry)) ⌝ }
+{
     let mut i: usize = 0;
     while i < count {
         if a.len() <= i {
@@ -157,16 +161,18 @@ pub fn same_bytes(a: &[u8], b: &[u8], count: usize) -> bool {
 }
 
 // Whether the first `count` words of both are the same; a word past an end differs.
-pub fn same_words(a: &[u64], b: &[u64], count: usize) -> bool {
+pub fn same_words(left: &[u64], right: &[u64], count: usize) -> bool
+    ensures { λ r. ⌜ r ≡ sameFirst count (now (left .entry)) (now (right .entry)) ⌝ }
+{
     let mut i: usize = 0;
     while i < count {
-        if a.len() <= i {
+        if left.len() <= i {
             return false;
         }
-        if b.len() <= i {
+        if right.len() <= i {
             return false;
         }
-        if a[i] != b[i] {
+        if left[i] != right[i] {
             return false;
         }
         i += 1;

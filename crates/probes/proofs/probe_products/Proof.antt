@@ -1,26 +1,33 @@
--- `probes::probe_products` is safe and ends: what is left to do falls. Assumes nothing.
+-- `probes::probe_products` meets its contract. The loop's invariant: the places passed hold what they are to, and no place is lost. Assumes
+-- nothing.
 use borrow.Author.Needs.{needs}
-use Prim.Native.Nat.{_-_}
-use mathlib.Core.Path.{_≡_}
+use Prim.Native.Nat.{ℕ, _-_, _<_, _≤_}
+use mathlib.Core.Path.{_≡_, refl, sym, ap, _∙_}
 use native.Mathlib.Omega.{arith}
-use lib.ListN.{length, length-set}
+use lib.ListN.{length, getD, length-set}
+use lib.Seq.{ext-getD}
+use borrow.Author.Tests.{eq-eqb, ne-eqb}
+use Rattle.field.specs.Elements.{mulF}
+use Rattle.probes.specs.Probes.{productsOf}
+use Rattle.probes.proofs.Places.{declines, writes, left-differs, right-differs, products-fit, are-products, turn}
 use Rattle.probes.proofs.probe_products.Statement.{statement}
 use Rattle.probes.proofs.probe_products.Tie as tie
 
 abbrev Inv-loop : tie.InvT-loop
-Inv-loop left right out₀ i₀ out i = length out ≡ length out₀
+Inv-loop left right out₀ i₀ out i =
+    (length out ≡ length out₀) × (i ≤ length out) × ((k : ℕ) → k < i → getD out k 0 ≡ mulF (getD left k 0) (getD right k 0))
 
 abbrev μ-loop : tie.MeasureT-loop
 μ-loop left right out₀ i₀ out i = length out - i
 
 returns : tie.Need-returns Inv-loop μ-loop
-returns c = search needs
+returns c = declines _ _ _ (left-differs _ _ _ (c .if1 .taken))
 
 returns-2 : tie.Need-returns-2 Inv-loop μ-loop
-returns-2 c = search needs
+returns-2 c = declines _ _ _ (right-differs _ _ _ (omega arith) (c .if2 .taken))
 
 loop-holds : tie.Need-loop-holds Inv-loop μ-loop
-loop-holds c = search needs
+loop-holds c = (refl, omega arith, λ k h. absurd (omega arith))
 
 mul-t8 : tie.Need-mul-t8 Inv-loop μ-loop
 mul-t8 c = search needs
@@ -50,13 +57,25 @@ loop-less : tie.Need-loop-less Inv-loop μ-loop
 loop-less c = simp length-set (omega arith)
 
 loop-again : tie.Need-loop-again Inv-loop μ-loop
-loop-again c = simp length-set (omega arith)
+loop-again c =
+    let args = c .before .before .before .before .before .before .before .before .before .before .args in
+    let loop = c .before .before .before .before .loop in
+    let left = args .left .now in
+    let right = args .right .now in
+    let room : loop .i < length (loop .out) = omega arith in (
+      simp length-set (omega arith),
+      simp length-set (omega arith),
+      turn (λ (k : ℕ). mulF (getD left k 0) (getD right k 0)) (loop .out) (loop .i) (c .mul .result .0) room (loop .inv .2) (c .mul .ensures),
+    )
 
 same-length : tie.Need-same-length Inv-loop μ-loop
-same-length c = search needs
+same-length c = c .before .loop .inv .0
 
 returns-3 : tie.Need-returns-3 Inv-loop μ-loop
-returns-3 c = search needs
+returns-3 c =
+    let loop = c .before .loop in
+    writes _ _ _ _ (products-fit _ _ _ (omega arith) (omega arith))
+    (are-products _ _ _ (omega arith) (omega arith) (λ k h. loop .inv .2 k (omega arith)))
 
 pub probe-products-spec : {M : Type 1} → statement M
 probe-products-spec =
