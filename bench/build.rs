@@ -1,5 +1,5 @@
-//! Links the port's static libraries, libffi.a and libprobes.a, from the folder PORT_LIB (default: target/staticlib of the repository,
-//! where `rt staticlib ffi` and `rt staticlib probes` write them). Where EARLIER_LIB names the folder of another libffi.a, that is linked too,
+//! Links the port's static libraries, libu32_table.a and libprobes.a, from the folder PORT_LIB (default: target/staticlib of the repository,
+//! where `rt staticlib u32_table` and `rt staticlib probes` write them). Where EARLIER_LIB names the folder of another libu32_table.a, that is linked too,
 //! with `earlier_` before its names.
 use std::env;
 use std::path::PathBuf;
@@ -17,12 +17,12 @@ fn main() {
         None => krate.join("../target/staticlib"),
     };
     println!("cargo::rustc-link-search=native={}", folder.display());
-    for name in ["ffi", "probes"] {
+    for name in ["u32_table", "probes"] {
         println!("cargo::rerun-if-changed={}", folder.join(format!("lib{name}.a")).display());
         println!("cargo::rustc-link-lib=static={name}");
     }
     if let Some(folder) = env::var_os("EARLIER_LIB") {
-        let library = PathBuf::from(folder).join("libffi.a");
+        let library = PathBuf::from(folder).join("libu32_table.a");
         let out = PathBuf::from(env::var_os("OUT_DIR").unwrap());
         let names = NAMES.map(|name| format!("--redefine-sym=u32_table_{name}=earlier_u32_table_{name}"));
         let status = Command::new("objcopy").args(names).arg(&library).arg(out.join("libearlier.a")).status();

@@ -1,8 +1,8 @@
 /* The U32 table of Triton VM, proved: record, compare, plan, read, write, fill, pad, extend, check.
  *
- * The functions stand in crates/ffi. `rt staticlib ffi` proves them and writes target/staticlib/libffi.a for x86-64 Linux:
+ * The functions stand in crates/u32_table. `rt staticlib u32_table` proves them and writes target/staticlib/libu32_table.a for x86-64 Linux:
  *
- *     cc -Iinclude program.c target/staticlib/libffi.a
+ *     cc -Iinclude program.c target/staticlib/libu32_table.a
  *
  * They allocate nothing, keep nothing between calls, use of the C library only memset, and may run on many threads at once. u32_table_read
  * takes about 120 KB of stack, u32_table_write 50 KB, u32_table_fill 10 KB, the others at most 1 KB.

@@ -21,17 +21,17 @@ KINDS = {
     "program": ("#e0f0df", "#4c8a47", "programs, C calls"),
 }
 KIND = {
-    "field": "call", "xfield": "call", "isa": "call", "aet": "call", "stored": "call", "checker": "call", "u32_table": "call",
-    "extension": "call", "transcript": "call", "air": "theory", "honest": "theory", "round_trips": "theory",
-    "printed_example": "theory", "u32list": "program",
-    "ffi": "program",
+    "field": "call", "xfield": "call", "isa": "call", "list_record": "call", "list_stored": "call", "check_table": "call", "fill": "call",
+    "extend": "call", "transcript": "call", "air": "theory", "four_calls": "theory", "list_round_trips": "theory",
+    "u32list_example": "theory", "u32list": "program",
+    "u32_table": "program",
 }  # fmt: skip
 
 # the columns: lists; entries and C calls; elements; the check; tables; text
 LANE = {
-    "lists": 0, "aet": 0, "stored": 0, "round_trips": 0, "words": 1, "isa": 1, "packed": 1, "u32_table": 4, "extension": 4, "ffi_tables": 1, "ffi": 1,
-    "field": 2, "repeats": 2, "ffi_answers": 2, "ffi_lists": 2, "honest": 2, "plain_rows": 2, "xfield": 3, "air": 3, "layout": 3, "constraints": 3, "transitions": 3,
-    "searches": 3, "checker": 3, "results": 4, "sections": 4, "printed_example": 4, "text": 5, "transcript": 5, "u32list": 5,
+    "list": 0, "list_record": 0, "list_stored": 0, "list_round_trips": 0, "words": 1, "isa": 1, "list_bytes": 1, "fill": 4, "extend": 4, "c_tables": 1, "u32_table": 1,
+    "field": 2, "list_repeats": 2, "c_answers": 2, "c_lists": 2, "four_calls": 2, "check_plain": 2, "xfield": 3, "air": 3, "table": 3, "check_rows": 3, "check_pairs": 3,
+    "check_search": 3, "check_table": 3, "fill_results": 4, "fill_sections": 4, "u32list_example": 4, "text": 5, "transcript": 5, "u32list": 5,
 }  # fmt: skip
 
 

@@ -289,7 +289,7 @@ unfolding code.routine tablesOf
     (tables 𝓤 H 𝓜 𝓡 code.env .C) (tables 𝓤 H 𝓜 𝓡 code.env .Λ) #fn code.function (code.unfolded 𝓤 H 𝓜 𝓡)
     ({kebab}-meets 𝓤 H (𝓖 .A) (givenOf 𝓤 H 𝓜 𝓖) (𝓜 .mem) (𝓡 .run) (tablesOf 𝓤 H 𝓜 (tables 𝓤 H 𝓜 𝓡 code.env))
     (cited 𝓤 H (CoreC 𝓤 H (𝓖 .A) (𝓜 .mem) (𝓡 .run)) 𝓜 𝓡 code.env #core core-def.routine
-    code.calls-{crate}·{core.replace('_', '-')} (core-thm.met 𝓤 H 𝓜 𝓖 𝓡)))''')
+    code.calls-{crate.replace('_', '-')}·{core.replace('_', '-')} (core-thm.met 𝓤 H 𝓜 𝓖 𝓡)))''')
     return '\n'.join(out) + '\n'
 
 
@@ -404,11 +404,11 @@ def recorded(z, lists, numbers, answer, z_after, lists_after):
 
 
 FUNCTIONS = [
-    dict(crate='aet', function='record_u32_table_entry', core='record_u32_table_entry_by_value',
-         home='lists', sizes='Sizes', answer='Recorded', recording='Recording', slices=2, numbers=['opcode', 'lhs', 'rhs'],
+    dict(crate='list_record', function='record_u32_table_entry', core='record_u32_table_entry_by_value',
+         home='list', sizes='Sizes', answer='Recorded', recording='Recording', slices=2, numbers=['opcode', 'lhs', 'rhs'],
          uses='use Rattle.isa.specs.Entries.{entry}\n'
-              'use Rattle.lists.specs.Lists.{u32List}\n'
-              'use Rattle.aet.specs.Recording.{recordAll, IsRecorded}',
+              'use Rattle.list.specs.Lists.{u32List}\n'
+              'use Rattle.list_record.specs.Recording.{recordAll, IsRecorded}',
          promise=recorded),
 ]
 

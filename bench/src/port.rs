@@ -1,4 +1,4 @@
-//! The C functions of crates/ffi and crates/probes, on slices; and record, extend and check of an earlier library, where one is linked.
+//! The C functions of crates/u32_table and crates/probes, on slices; and record, extend and check of an earlier library, where one is linked.
 mod c {
     unsafe extern "C" {
         pub fn u32_table_record(

@@ -1,5 +1,5 @@
-//! Links the port's static libraries, libffi.a and libprobes.a, from the folder PORT_LIB (default: target/staticlib of the repository,
-//! where `rt staticlib ffi` and `rt staticlib probes` write them).
+//! Links the port's static libraries, libu32_table.a and libprobes.a, from the folder PORT_LIB (default: target/staticlib of the repository,
+//! where `rt staticlib u32_table` and `rt staticlib probes` write them).
 use std::env;
 use std::path::PathBuf;
 
@@ -11,7 +11,7 @@ fn main() {
         None => krate.join("../../target/staticlib"),
     };
     println!("cargo::rustc-link-search=native={}", folder.display());
-    for name in ["ffi", "probes"] {
+    for name in ["u32_table", "probes"] {
         println!("cargo::rerun-if-changed={}", folder.join(format!("lib{name}.a")).display());
         println!("cargo::rustc-link-lib=static={name}");
     }

@@ -1,4 +1,4 @@
-//! The U32 table of Triton VM, proved: a safe interface to the static library that `rt staticlib ffi` makes of the proved crates.
+//! The U32 table of Triton VM, proved: a safe interface to the static library that `rt staticlib u32_table` makes of the proved crates.
 //!
 //! The table holds every comparison, bitwise and, logarithm, power and bit count that a program made on 32-bit numbers, in rows that forty
 //! polynomials tie together. A [`List`] records them and can be stored; [`fill`], [`pad`] and [`extend`] make the table; [`check`] finds the
@@ -35,7 +35,7 @@
 //!
 //! # Linking
 //!
-//! The build script looks for `libffi.a` in the folder that the variable `U32_TABLE_LIB` names, and else in `target/staticlib` of the
+//! The build script looks for `libu32_table.a` in the folder that the variable `U32_TABLE_LIB` names, and else in `target/staticlib` of the
 //! repository. The library is for x86-64 Linux.
 #![deny(missing_docs)]
 #![deny(unsafe_code)]

@@ -4,9 +4,9 @@
 ghost use mathlib.Core.Path.{_≡_};
 ghost use Rattle.probes.specs.Probes.{answered, written, productsFit, productsOf, chainOf, inversesFit, inversesOf};
 use field::BFieldElement;
-use layout::AuxRow;
-use layout::Challenges;
-use layout::MainRow;
+use table::AuxRow;
+use table::Challenges;
+use table::MainRow;
 use xfield::XFieldElement;
 
 fn write(words: &mut [u64], k: usize, word: u64) {
@@ -49,13 +49,13 @@ fn put_all(
     aux: AuxRow,
     aux_next: AuxRow,
 ) {
-    let initial = constraints::initial_constraints(challenges, upper, aux);
-    let terminal = constraints::terminal_constraints(upper);
+    let initial = check_rows::initial_constraints(challenges, upper, aux);
+    let terminal = check_rows::terminal_constraints(upper);
     put(values, 0, initial[0]);
-    put_consistency(values, constraints::consistency_constraints(upper));
+    put_consistency(values, check_rows::consistency_constraints(upper));
     put_transition(
         values,
-        transitions::transition_constraints(challenges, upper, lower, aux, aux_next),
+        check_pairs::transition_constraints(challenges, upper, lower, aux, aux_next),
     );
     put(values, 38, terminal[0]);
     put(values, 39, terminal[1]);

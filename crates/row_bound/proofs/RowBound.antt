@@ -21,15 +21,15 @@ use Rattle.isa.specs.Opcodes.{opPow}
 use Rattle.isa.specs.declared.U32TableEntry.{U32TableEntry}
 use Rattle.isa.specs.Entries.{dominant, height}
 use Rattle.isa.proofs.Logarithm.{height-below}
-use Rattle.lists.specs.Lists.{U32List}
-use Rattle.lists.specs.Heights.{sectionEntries, sectionPlaces, sumHeights, listHeight}
+use Rattle.list.specs.Lists.{U32List}
+use Rattle.list.specs.Heights.{sectionEntries, sectionPlaces, sumHeights, listHeight}
 use Rattle.air.specs.Columns.{Row, rowAt, rowCount, allReduced}
 use Rattle.air.specs.Check.{ConstraintsHold}
 use Rattle.air.proofs.Descent.{Descent, first-ok, bits-zero, steps-bound, rhs-bound, lhs-bound}
 use Rattle.air.proofs.Soundness.{DescentIn, from-row}
 use Rattle.air.proofs.Judging.{accepted}
 use Rattle.air.proofs.Claims.{zero-iff}
-use Rattle.u32_table.specs.Filling.{Sections, joined, noSections, sectionsAt, fillReason, filledAs, fillAll}
+use Rattle.fill.specs.Filling.{Sections, joined, noSections, sectionsAt, fillReason, filledAs, fillAll}
 use Rattle.row_bound.specs.OwnRows.{entryOf, entryIn, NoShorter, NoShorterThanFilled, NoneShorterPasses}
 use Rattle.row_bound.proofs.Weights.{sumTo, sum-ext, sum-first, picked, runs-fit}
 

@@ -9,11 +9,11 @@ use lib.ListN.{length, getD}
 use Rattle.isa.specs.declared.U32TableEntry.{U32TableEntry}
 use Rattle.isa.specs.Entries.{entry}
 use Rattle.words.specs.Answers.{done}
-use Rattle.lists.specs.Lists.{U32List}
-use Rattle.lists.specs.Heights.{sectionEntries, sumHeights}
+use Rattle.list.specs.Lists.{U32List}
+use Rattle.list.specs.Heights.{sectionEntries, sumHeights}
 use Rattle.air.specs.Columns.{Row, rowAt, rowCount}
 use Rattle.air.specs.Check.{checkAll}
-use Rattle.u32_table.specs.Filling.{fillAll}
+use Rattle.fill.specs.Filling.{fillAll}
 
 -- "with its CI, LHS and RHS": the entry that a row is about
 abbrev pub entryOf : Row → U32TableEntry

@@ -13,19 +13,19 @@ use Rattle.words.specs.Answers.{Answer}
 use Rattle.words.specs.declared.Judgement.{Judgement}
 use Rattle.words.specs.declared.Judgement.the-variants.{Fine, Declined}
 use Rattle.xfield.specs.Extension.{Ext, isZeroX}
-use Rattle.lists.specs.Lists.{U32List, used}
-use Rattle.lists.specs.Heights.{listHeight}
-use Rattle.aet.specs.Heights.{paddedHeight}
+use Rattle.list.specs.Lists.{U32List, used}
+use Rattle.list.specs.Heights.{listHeight}
+use Rattle.list_record.specs.Heights.{paddedHeight}
 use Rattle.air.specs.Columns.{Row, rowAt}
 use Rattle.air.specs.Check.{nonzero, firstIn, firstInRows, firstNonzero, judgeCheck, checkedAs, checkAll}
-use Rattle.sections.specs.Sections.{rowWords}
-use Rattle.u32_table.specs.Filling.{fillAll}
-use Rattle.u32_table.specs.Padding.{padAll}
-use Rattle.u32_table.specs.Extending.{extendReason, extendedAs, extendAll}
+use Rattle.fill_sections.specs.Sections.{rowWords}
+use Rattle.fill.specs.Filling.{fillAll}
+use Rattle.fill.specs.Padding.{padAll}
+use Rattle.fill.specs.Extending.{extendReason, extendedAs, extendAll}
 use Rattle.text.specs.Lines.{rowLine, verdictLine, refusedLine}
 use Rattle.text.specs.Put.{Put}
 use Rattle.text.proofs.Lengths.{head-bound, row-bound, sum-bound, verdict-bound, refused-bound}
-use Rattle.stored.specs.Stored.{readAll}
+use Rattle.list_stored.specs.Stored.{readAll}
 use Rattle.transcript.specs.Transcript.{challengeBytes, challengesIn, unusedPlaces, unlessRefused, rowLines, openingText, resultText}
 use Rattle.transcript.specs.Transcript.{checkedText, extendedText, paddedText, callsText, heightText, listText, readText}
 use Rattle.transcript.specs.Transcript.{transcriptOf, maxText}

@@ -7,7 +7,7 @@ use native.Mathlib.Omega.{arith}
 use lib.ListN.{length, getD, take, drop}
 use lib.Seq.{drop-cons}
 use Rattle.air.specs.Columns.{mainWidth, rowAt}
-use Rattle.sections.specs.Sections.{rowWords}
+use Rattle.fill_sections.specs.Sections.{rowWords}
 
 -- the k words from place j + o on
 abbrev wordsAt : List ℕ → ℕ → ℕ → ℕ → List ℕ

@@ -21,29 +21,29 @@ use Rattle.words.specs.declared.Judgement.the-variants.{Fine, Declined}
 use Rattle.words.proofs.Sets.{sets-front}
 use Rattle.xfield.specs.declared.XFieldElement.{XFieldElement}
 use Rattle.xfield.specs.XFieldElements.{extOf}
-use Rattle.lists.specs.Lists.{U32List, used, judgeList}
-use Rattle.aet.specs.declared.Planned.{Planned}
-use Rattle.aet.specs.declared.Planned.the-variants.{Heights, Refused as PlanRefused}
-use Rattle.lists.specs.Heights.{listHeight}
-use Rattle.aet.specs.Heights.{paddedHeight, plannedAs, planAll, plannedAnswer}
-use Rattle.aet.specs.Recording.{After}
+use Rattle.list.specs.Lists.{U32List, used, judgeList}
+use Rattle.list_record.specs.declared.Planned.{Planned}
+use Rattle.list_record.specs.declared.Planned.the-variants.{Heights, Refused as PlanRefused}
+use Rattle.list.specs.Heights.{listHeight}
+use Rattle.list_record.specs.Heights.{paddedHeight, plannedAs, planAll, plannedAnswer}
+use Rattle.list_record.specs.Recording.{After}
 use Rattle.air.specs.Columns.{mainWidth, auxWidth}
 use Rattle.air.specs.Challenges.{challengeWords}
 use Rattle.air.specs.Check.{nonzero, checkAll}
-use Rattle.checker.specs.declared.Verdict.{Verdict}
-use Rattle.checker.specs.declared.Verdict.the-variants.{Zero, Nonzero, Refused as VerdictRefused}
-use Rattle.checker.specs.Verdicts.{verdictAnswer}
-use Rattle.extension.specs.declared.Extended.the-variants.{Sum, Refused as ExtendedRefused}
-use Rattle.extension.specs.Extensions.{IsExtended}
-use Rattle.u32_table.specs.declared.Filled.the-variants.{Rows, Refused as FilledRefused}
-use Rattle.u32_table.specs.declared.Padded.the-variants.{Done, Refused as PaddedRefused}
-use Rattle.u32_table.specs.Filling.{TableAfter, IsFilled, fillAll}
-use Rattle.u32_table.specs.Padding.{IsPadded, padAll}
-use Rattle.u32_table.specs.Extending.{AuxAfter, elementWords, extendAll}
-use Rattle.stored.specs.declared.Read.the-variants.{Entries, Refused as ReadRefused}
-use Rattle.lists.specs.Places.{places}
-use Rattle.stored.specs.Stored.{readAll, IsRead}
-use Rattle.packed.proofs.Replaced.{length-map}
+use Rattle.check_table.specs.declared.Verdict.{Verdict}
+use Rattle.check_table.specs.declared.Verdict.the-variants.{Zero, Nonzero, Refused as VerdictRefused}
+use Rattle.check_table.specs.Verdicts.{verdictAnswer}
+use Rattle.extend.specs.declared.Extended.the-variants.{Sum, Refused as ExtendedRefused}
+use Rattle.extend.specs.Extensions.{IsExtended}
+use Rattle.fill.specs.declared.Filled.the-variants.{Rows, Refused as FilledRefused}
+use Rattle.fill.specs.declared.Padded.the-variants.{Done, Refused as PaddedRefused}
+use Rattle.fill.specs.Filling.{TableAfter, IsFilled, fillAll}
+use Rattle.fill.specs.Padding.{IsPadded, padAll}
+use Rattle.fill.specs.Extending.{AuxAfter, elementWords, extendAll}
+use Rattle.list_stored.specs.declared.Read.the-variants.{Entries, Refused as ReadRefused}
+use Rattle.list.specs.Places.{places}
+use Rattle.list_stored.specs.Stored.{readAll, IsRead}
+use Rattle.list_bytes.proofs.Replaced.{length-map}
 use Rattle.text.specs.Lines.{verdictLine, refusedLine}
 use Rattle.text.specs.Put.{Put}
 use Rattle.text.proofs.Putting.{put-then}

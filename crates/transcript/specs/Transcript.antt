@@ -13,18 +13,18 @@ use Rattle.words.specs.Refusals.{refusalNumber, declineIf}
 use Rattle.words.specs.declared.Judgement.{Judgement}
 use Rattle.words.specs.declared.Judgement.the-variants.{Fine, Declined}
 use Rattle.words.specs.declared.Refusal.the-variants.{Shape, Short, Torn}
-use Rattle.lists.specs.Lists.{U32List, u32List, used}
-use Rattle.lists.specs.Heights.{listHeight}
-use Rattle.aet.specs.Heights.{paddedHeight, planAll}
-use Rattle.lists.specs.Places.{places}
-use Rattle.stored.specs.Stored.{readAll}
+use Rattle.list.specs.Lists.{U32List, u32List, used}
+use Rattle.list.specs.Heights.{listHeight}
+use Rattle.list_record.specs.Heights.{paddedHeight, planAll}
+use Rattle.list.specs.Places.{places}
+use Rattle.list_stored.specs.Stored.{readAll}
 use Rattle.air.specs.Columns.{mainWidth, auxWidth, rowAt}
 use Rattle.air.specs.Challenges.{challengeWords}
 use Rattle.air.specs.Check.{checkAll}
-use Rattle.sections.specs.Sections.{rowWords}
-use Rattle.u32_table.specs.Filling.{fillAll}
-use Rattle.u32_table.specs.Padding.{padAll}
-use Rattle.u32_table.specs.Extending.{extendAll}
+use Rattle.fill_sections.specs.Sections.{rowWords}
+use Rattle.fill.specs.Filling.{fillAll}
+use Rattle.fill.specs.Padding.{padAll}
+use Rattle.fill.specs.Extending.{extendAll}
 use Rattle.text.specs.Lines.{headLine, rowLine, sumLine, verdictLine, refusedLine}
 use Rattle.transcript.specs.declared.Transcribed.{Transcribed}
 use Rattle.transcript.specs.declared.Transcribed.the-variants.{Length, Refused}

@@ -5,22 +5,22 @@ ghost use lib.ListN.{length};
 ghost use Rattle.words.specs.Limits.{maxPrintedRows};
 ghost use Rattle.words.specs.Refusals.{refusalNumber};
 ghost use Rattle.xfield.specs.XFieldElements.{extOf};
-ghost use Rattle.lists.specs.Lists.{u32List};
-ghost use Rattle.u32_table.specs.Extending.{elementWords};
-ghost use Rattle.checker.specs.Verdicts.{verdictAnswer};
+ghost use Rattle.list.specs.Lists.{u32List};
+ghost use Rattle.fill.specs.Extending.{elementWords};
+ghost use Rattle.check_table.specs.Verdicts.{verdictAnswer};
 ghost use Rattle.text.specs.Lines.{refusedLine};
 ghost use Rattle.text.specs.Put.{Put};
 ghost use Rattle.transcript.specs.Transcript.{challengeBytes, challengesIn, unlessRefused, rowLines, resultText, openingText};
 ghost use Rattle.transcript.specs.Transcript.{checkedText, extendedText, paddedText, callsText, heightText, listText, readText};
 ghost use Rattle.transcript.specs.Transcript.{maxText, IsTranscribed};
-use aet::MAX_PLACES;
-use aet::Planned;
-use aet::Sizes;
-use checker::Verdict;
-use extension::Extended;
-use stored::Read;
-use u32_table::Filled;
-use u32_table::Padded;
+use check_table::Verdict;
+use extend::Extended;
+use fill::Filled;
+use fill::Padded;
+use list_record::MAX_PLACES;
+use list_record::Planned;
+use list_record::Sizes;
+use list_stored::Read;
 use words::Refusal;
 use xfield::XFieldElement;
 
@@ -131,10 +131,10 @@ fn put_extended(
     requires { ⌜ (maxText ≤ length (now out)) × (padded ≤ maxPrintedRows) × (10 * padded ≤ length (now table)) ⌝ }
     ensures { λ r. ⌜ Put (now (out .entry)) 0 (extendedText n height padded (now (table .entry)) (now (aux .entry)) (now (challenges .entry))) (now (out .exit)) r ⌝ }
 {
-    match extension::extend(table, aux, challenges) {
+    match extend::extend(table, aux, challenges) {
         Extended::Refused(reason) => put_reason(out, reason),
         Extended::Sum(sum) => {
-            let verdict = checker::check(table, aux, challenges);
+            let verdict = check_table::check(table, aux, challenges);
             put_result(out, n, height, padded, table, sum, verdict)
         }
     }
@@ -153,7 +153,7 @@ fn put_padded(
     requires { ⌜ (maxText ≤ length (now out)) × (padded ≤ maxPrintedRows) × (10 * padded ≤ length (now table)) ⌝ }
     ensures { λ r. ⌜ Put (now (out .entry)) 0 (paddedText n height padded (now (table .entry)) (now (aux .entry)) (now (challenges .entry))) (now (out .exit)) r ⌝ }
 {
-    match u32_table::pad(table, height as usize) {
+    match fill::pad(table, height as usize) {
         Padded::Refused(reason) => put_reason(out, reason),
         Padded::Done => put_extended(out, n, height, padded, table, aux, challenges),
     }
@@ -174,7 +174,7 @@ fn put_calls(
     requires { ⌜ (maxText ≤ length (now out)) × (padded ≤ maxPrintedRows) × (10 * padded ≤ length (now table)) ⌝ }
     ensures { λ r. ⌜ Put (now (out .entry)) 0 (callsText (u32List sizes (now (keys .entry)) (now (multiplicities .entry))) (now (challenges .entry)) height padded (now (table .entry)) (now (aux .entry))) (now (out .exit)) r ⌝ }
 {
-    match u32_table::fill(sizes, keys, multiplicities, table) {
+    match fill::fill(sizes, keys, multiplicities, table) {
         Filled::Refused(reason) => put_reason(out, reason),
         Filled::Rows(_) => {
             let n = sizes.used;
@@ -228,7 +228,7 @@ fn put_list(
     requires { ⌜ maxText ≤ length (now out) ⌝ }
     ensures { λ r. ⌜ Put (now (out .entry)) 0 (listText (u32List sizes (now (keys .entry)) (now (multiplicities .entry))) (now (challenges .entry))) (now (out .exit)) r ⌝ }
 {
-    match aet::plan(sizes, keys, multiplicities) {
+    match list_record::plan(sizes, keys, multiplicities) {
         Planned::Refused(reason) => put_reason(out, reason),
         Planned::Heights { height, padded } => {
             put_height(out, sizes, keys, multiplicities, challenges, height, padded)
@@ -247,7 +247,7 @@ fn put_stored(out: &mut [u8], bytes: &[u8], challenges: &[u64]) -> usize
         capacity: MAX_PLACES,
         used: 0,
     };
-    let reading = stored::read_list(bytes, sizes, &mut keys, &mut multiplicities);
+    let reading = list_stored::read_list(bytes, sizes, &mut keys, &mut multiplicities);
     let after = reading.sizes;
     let answer = reading.answer;
     match answer {

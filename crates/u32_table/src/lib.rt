@@ -1,151 +1,169 @@
-// Filling and padding the U32 table.
+// The calls of document 01 as C functions on numbers and slices: include/u32_table.h describes them. Each returns document 01's number, 0 for done.
+// Further answers go into `answers`, a lent array of words: with fewer words than the call states it is refused with 1 before anything else is
+// looked at; on every refusal it is untouched, and so are always its words past those stated.
 ghost use mathlib.Core.Path.{_≡_};
-ghost use mathlib.Core.List.{List};
-ghost use Prim.Native.Nat.{_*_, _≤_};
-ghost use lib.ListN.{length};
-ghost use lib.Seq.{sets};
-ghost use Rattle.words.specs.declared.Judgement.the-variants.{Fine};
-ghost use Rattle.lists.specs.Lists.{u32List, judgeList};
-ghost use Rattle.lists.specs.Heights.{sectionPlaces, listHeight};
-ghost use Rattle.air.specs.Columns.{Row};
-ghost use Rattle.sections.specs.Sections.{rowWords, tableWords};
-ghost use Rattle.u32_table.specs.Filling.{sectionsAt, joined, fillAll, IsFilled};
-ghost use Rattle.u32_table.specs.Padding.{lastFilled, paddingRow, padAll, IsPadded};
-use field::BFieldElement;
-use isa::Admission;
-use layout::MainRow;
-use lists::Judged;
-use lists::Sizes;
-use results::Choice;
-use words::Refusal;
+ghost use Rattle.isa.specs.Entries.{entry};
+ghost use Rattle.list_record.specs.Heights.{planAll};
+ghost use Rattle.list_record.specs.Recording.{recordAll};
+ghost use Rattle.list_stored.specs.Stored.{readAll, writeAll};
+ghost use Rattle.c_answers.specs.Exports.{lentList, lentDue, Exported};
+ghost use Rattle.c_lists.specs.ListAnswers.{withUsed, compareAll};
+ghost use Rattle.air.specs.Check.{checkAll};
+ghost use Rattle.fill.specs.Filling.{fillAll};
+ghost use Rattle.fill.specs.Padding.{padAll};
+ghost use Rattle.fill.specs.Extending.{extendAll};
+ghost use Rattle.c_tables.specs.TableAnswers.{verdictDue, SaysZeroIff, SaysZeroSound, SaysZeroSums};
 
-// What `fill` answers: the height, or why it declines.
-pub enum Filled {
-    Rows(u64),
-    Refused(Refusal),
-}
-
-// What `pad` answers.
-pub enum Padded {
-    Done,
-    Refused(Refusal),
-}
-
-// Fills the sections of a list that is judged fine, one after the other from row 0 on, and answers how many rows they have. Neither refusal
-// is reached: every entry was admitted, and its opcode is one of the six.
-fn fill_sections(sizes: Sizes, keys: &[u64], multiplicities: &[u64], table: &mut [u64]) -> Filled
-    requires { ⌜ judgeList (u32List sizes (now keys) (now multiplicities)) ≡ Fine ⌝ }
-    requires { ⌜ 10 * listHeight (u32List sizes (now keys) (now multiplicities)) ≤ length (now table) ⌝ }
-    ensures { λ r. ⌜ r ≡ Filled.Rows (listHeight (u32List sizes (now (keys .entry)) (now (multiplicities .entry)))) ⌝ }
-    ensures { λ _. ⌜ ((rs : List Row) → sectionsAt (u32List sizes (now (keys .entry)) (now (multiplicities .entry))) (sectionPlaces (u32List sizes (now (keys .entry)) (now (multiplicities .entry)))) ≡ joined rs → now (table .exit) ≡ sets (now (table .entry)) 0 (tableWords rs)) ⌝ }
+// Answers: the key's position, and the places used afterwards.
+#[no_mangle]
+pub extern "C" fn u32_table_record(
+    capacity: usize,
+    used: usize,
+    keys: &mut [u64],
+    multiplicities: &mut [u64],
+    opcode: u64,
+    left_operand: u64,
+    right_operand: u64,
+    answers: &mut [u64],
+) -> u64
+    ensures answers { λ r. ⌜ Exported 2 (withUsed (recordAll (lentList capacity used (now (keys .entry)) (now (multiplicities .entry))) (entry opcode «left_operand» «right_operand»))) (now (answers .entry)) r (now (answers .exit)) ⌝ }
+    ensures keys { λ _. ⌜ now (keys .exit) ≡ lentDue 2 (now (answers .entry)) (now (keys .entry)) (recordAll (lentList capacity used (now (keys .entry)) (now (multiplicities .entry))) (entry opcode «left_operand» «right_operand») .list .keys) ⌝ }
+    ensures multiplicities { λ _. ⌜ now (multiplicities .exit) ≡ lentDue 2 (now (answers .entry)) (now (multiplicities .entry)) (recordAll (lentList capacity used (now (keys .entry)) (now (multiplicities .entry))) (entry opcode «left_operand» «right_operand») .list .multiplicities) ⌝ }
 {
-    let inverses = sections::bits_minus_33_inverses();
-    let small = BFieldElement::small_inverses();
-    let mut row: usize = 0;
-    let mut place: usize = 0;
-    while place < sizes.used {
-        match lists::key_at(keys, place).admit() {
-            Admission::Admitted(e) => {
-                let Choice::Value(_) = sections::fill_entry(
-                    table,
-                    row,
-                    e,
-                    multiplicities[place],
-                    &inverses,
-                    &small,
-                ) else {
-                    return Filled::Refused(Refusal::Stranger);
-                };
-                row += e.table_height_contribution() as usize;
-            }
-            Admission::Refused(reason) => return Filled::Refused(reason),
-        }
-        place += 1;
-    }
-    Filled::Rows(row as u64)
+    c_lists::record_entry(
+        capacity,
+        used,
+        keys,
+        multiplicities,
+        opcode,
+        left_operand,
+        right_operand,
+        answers,
+    )
 }
 
-// Fills the sections of the list's entries, in list order, from row 0 on. The answer is the height; later rows keep their words.
-pub fn fill(sizes: Sizes, keys: &[u64], multiplicities: &[u64], table: &mut [u64]) -> Filled
-    ensures { λ r. ⌜ IsFilled (fillAll (u32List sizes (now (keys .entry)) (now (multiplicities .entry))) (now (table .entry))) r (now (table .exit)) ⌝ }
+// Answers: 0 where the first entry is less, 1 where the two are equal, 2 where it is greater.
+#[no_mangle]
+pub extern "C" fn u32_table_compare(
+    opcode: u64,
+    left_operand: u64,
+    right_operand: u64,
+    other_opcode: u64,
+    other_left_operand: u64,
+    other_right_operand: u64,
+    answers: &mut [u64],
+) -> u64
+    ensures { λ r. ⌜ Exported 1 (compareAll (entry opcode «left_operand» «right_operand») (entry «other_opcode» «other_left_operand» «other_right_operand»)) (now (answers .entry)) r (now (answers .exit)) ⌝ }
 {
-    if !MainRow::has_shape(table) {
-        return Filled::Refused(Refusal::Shape);
-    }
-    match lists::judge_list(sizes, keys, multiplicities) {
-        Judged::Refused(reason) => Filled::Refused(reason),
-        Judged::Height(height) => {
-            if ((table.len() / 10) as u64) < height {
-                return Filled::Refused(Refusal::Short);
-            }
-            fill_sections(sizes, keys, multiplicities, table)
-        }
-    }
+    c_lists::compare(
+        opcode,
+        left_operand,
+        right_operand,
+        other_opcode,
+        other_left_operand,
+        other_right_operand,
+        answers,
+    )
 }
 
-// The words of the last filled row; with none filled, a row of zeros with CI split.
-fn last_filled(table: &[u64], filled: usize) -> [u64; 10]
-    requires { ⌜ 10 * filled ≤ length (now table) ⌝ }
-    ensures { λ r. ⌜ r ≡ rowWords (lastFilled (now (table .entry)) filled) ⌝ }
+// Answers: the height and the padded height.
+#[no_mangle]
+pub extern "C" fn u32_table_plan(
+    capacity: usize,
+    used: usize,
+    keys: &[u64],
+    multiplicities: &[u64],
+    answers: &mut [u64],
+) -> u64
+    ensures { λ r. ⌜ Exported 2 (planAll (lentList capacity used (now (keys .entry)) (now (multiplicities .entry)))) (now (answers .entry)) r (now (answers .exit)) ⌝ }
 {
-    if filled == 0 {
-        return [0, 0, 0, isa::SPLIT, 0, 0, 0, 0, 0, 0];
-    }
-    let at = 10 * (filled - 1);
-    [
-        table[at],
-        table[at + 1],
-        table[at + 2],
-        table[at + 3],
-        table[at + 4],
-        table[at + 5],
-        table[at + 6],
-        table[at + 7],
-        table[at + 8],
-        table[at + 9],
-    ]
+    c_lists::plan(capacity, used, keys, multiplicities, answers)
 }
 
-// The padding row after a last filled row.
-fn padding_row(last: [u64; 10]) -> [u64; 10]
-    ensures { λ r. ⌜ ((row : Row) → last ≡ rowWords row → r ≡ rowWords (paddingRow row)) ⌝ }
+// Answers: the number of entries, which is the number of places used afterwards.
+#[no_mangle]
+pub extern "C" fn u32_table_read(
+    bytes: &[u8],
+    capacity: usize,
+    used: usize,
+    keys: &mut [u64],
+    multiplicities: &mut [u64],
+    answers: &mut [u64],
+) -> u64
+    ensures answers { λ r. ⌜ Exported 1 (readAll (lentList capacity used (now (keys .entry)) (now (multiplicities .entry))) (now (bytes .entry)) .answer) (now (answers .entry)) r (now (answers .exit)) ⌝ }
+    ensures keys { λ _. ⌜ now (keys .exit) ≡ lentDue 1 (now (answers .entry)) (now (keys .entry)) (readAll (lentList capacity used (now (keys .entry)) (now (multiplicities .entry))) (now (bytes .entry)) .list .keys) ⌝ }
+    ensures multiplicities { λ _. ⌜ now (multiplicities .exit) ≡ lentDue 1 (now (answers .entry)) (now (multiplicities .entry)) (readAll (lentList capacity used (now (keys .entry)) (now (multiplicities .entry))) (now (bytes .entry)) .list .multiplicities) ⌝ }
 {
-    let ci = last[3];
-    let result = if ci == isa::LT { 2 } else { last[8] };
-    [
-        0,
-        0,
-        sections::BITS_MINUS_33_INVERSES[0],
-        ci,
-        last[4],
-        last[5],
-        0,
-        0,
-        result,
-        0,
-    ]
+    c_lists::read(bytes, capacity, used, keys, multiplicities, answers)
 }
 
-// Every row from `filled` on becomes the padding row.
-pub fn pad(table: &mut [u64], filled: usize) -> Padded
-    ensures { λ r. ⌜ IsPadded (padAll (now (table .entry)) filled) r (now (table .exit)) ⌝ }
+// Answers: the number of bytes written.
+#[no_mangle]
+pub extern "C" fn u32_table_write(
+    capacity: usize,
+    used: usize,
+    keys: &[u64],
+    multiplicities: &[u64],
+    out: &mut [u8],
+    answers: &mut [u64],
+) -> u64
+    ensures answers { λ r. ⌜ Exported 1 (writeAll (lentList capacity used (now (keys .entry)) (now (multiplicities .entry))) (now (out .entry)) .answer) (now (answers .entry)) r (now (answers .exit)) ⌝ }
+    ensures bytes { λ _. ⌜ now (out .exit) ≡ lentDue 1 (now (answers .entry)) (now (out .entry)) (writeAll (lentList capacity used (now (keys .entry)) (now (multiplicities .entry))) (now (out .entry)) .bytes) ⌝ }
 {
-    if !MainRow::has_shape(table) {
-        return Padded::Refused(Refusal::Shape);
-    }
-    let rows = table.len() / 10;
-    if rows < filled {
-        return Padded::Refused(Refusal::Short);
-    }
-    let last = last_filled(table, filled);
-    if !layout::all_reduced(&last) {
-        return Padded::Refused(Refusal::Unreduced);
-    }
-    let padding = padding_row(last);
-    let mut row = filled;
-    while row < rows {
-        words::put_row(table, 10 * row, padding);
-        row += 1;
-    }
-    Padded::Done
+    c_lists::write(capacity, used, keys, multiplicities, out, answers)
+}
+
+// Answers: the height.
+#[no_mangle]
+pub extern "C" fn u32_table_fill(
+    capacity: usize,
+    used: usize,
+    keys: &[u64],
+    multiplicities: &[u64],
+    table: &mut [u64],
+    answers: &mut [u64],
+) -> u64
+    ensures answers { λ r. ⌜ Exported 1 (fillAll (lentList capacity used (now (keys .entry)) (now (multiplicities .entry))) (now (table .entry)) .answer) (now (answers .entry)) r (now (answers .exit)) ⌝ }
+    ensures table { λ _. ⌜ now (table .exit) ≡ lentDue 1 (now (answers .entry)) (now (table .entry)) (fillAll (lentList capacity used (now (keys .entry)) (now (multiplicities .entry))) (now (table .entry)) .table) ⌝ }
+{
+    c_tables::fill(capacity, used, keys, multiplicities, table, answers)
+}
+
+// It has no answers besides the number.
+#[no_mangle]
+pub extern "C" fn u32_table_pad(table: &mut [u64], filled: usize) -> u64
+    ensures number { λ r. ⌜ r ≡ padAll (now (table .entry)) filled .answer .number ⌝ }
+    ensures table { λ _. ⌜ now (table .exit) ≡ padAll (now (table .entry)) filled .table ⌝ }
+{
+    c_tables::pad(table, filled)
+}
+
+// Answers: the three words of the last sum.
+#[no_mangle]
+pub extern "C" fn u32_table_extend(
+    table: &[u64],
+    aux: &mut [u64],
+    challenges: &[u64],
+    answers: &mut [u64],
+) -> u64
+    ensures answers { λ r. ⌜ Exported 3 (extendAll (now (table .entry)) (now (aux .entry)) (now (challenges .entry)) .answer) (now (answers .entry)) r (now (answers .exit)) ⌝ }
+    ensures aux { λ _. ⌜ now (aux .exit) ≡ lentDue 3 (now (answers .entry)) (now (aux .entry)) (extendAll (now (table .entry)) (now (aux .entry)) (now (challenges .entry)) .aux) ⌝ }
+{
+    c_tables::extend(table, aux, challenges, answers)
+}
+
+// Answers: 0 where every constraint is zero, and nothing more; else 1, group, row, index and the three words of the value.
+#[no_mangle]
+pub extern "C" fn u32_table_check(
+    table: &[u64],
+    aux: &[u64],
+    challenges: &[u64],
+    answers: &mut [u64],
+) -> u64
+    ensures answers { λ r. ⌜ Exported 7 (verdictDue (checkAll (now (table .entry)) (now (aux .entry)) (now (challenges .entry)))) (now (answers .entry)) r (now (answers .exit)) ⌝ }
+    ensures zero_iff { λ r. ⌜ SaysZeroIff (now (table .entry)) (now (aux .entry)) (now (challenges .entry)) (now (answers .entry)) r (now (answers .exit)) ⌝ }
+    ensures sound { λ r. ⌜ SaysZeroSound (now (table .entry)) r (now (answers .exit)) ⌝ }
+    ensures sum { λ r. ⌜ SaysZeroSums (now (table .entry)) (now (aux .entry)) (now (challenges .entry)) r (now (answers .exit)) ⌝ }
+{
+    c_tables::check(table, aux, challenges, answers)
 }

@@ -1,6 +1,6 @@
 -- What `u32list` prints is `plainText` (prints-plainly): of the calls, only reading and extension refuse, and the check's answer is zero. A list that
--- was read is admitted (round_trips: read-list-fine); so the plan and fill do not refuse, and the rest is the claim over the
--- four calls (honest). Assumes nothing.
+-- was read is admitted (list_round_trips: read-list-fine); so the plan and fill do not refuse, and the rest is the claim over the
+-- four calls (crate four_calls). Assumes nothing.
 use Prim.Native.Nat.{ℕ, _*_, _/_, _%_, _≤_, _<_}
 use mathlib.Core.Path.{_≡_, refl, sym, ap, _∙_}
 use mathlib.Core.Bool.{Bool, true, false, cond}
@@ -15,20 +15,20 @@ use Rattle.words.specs.Refusals.{refusalNumber, declineIf, orElse}
 use Rattle.words.specs.declared.Refusal.the-variants.{Shape, Short, Torn}
 use Rattle.words.specs.declared.Judgement.{Judgement}
 use Rattle.words.specs.declared.Judgement.the-variants.{Fine, Declined}
-use Rattle.lists.specs.Lists.{U32List, used, judgeList}
-use Rattle.lists.specs.Heights.{listHeight}
-use Rattle.aet.specs.Heights.{paddedHeight, planAll}
-use Rattle.aet.proofs.PaddedHeight.{padded-at-least, padded-positive}
-use Rattle.stored.specs.Stored.{readReason, readAs, readAll}
-use Rattle.round_trips.proofs.RoundTrips.{read-list-fine}
+use Rattle.list.specs.Lists.{U32List, used, judgeList}
+use Rattle.list.specs.Heights.{listHeight}
+use Rattle.list_record.specs.Heights.{paddedHeight, planAll}
+use Rattle.list_record.proofs.PaddedHeight.{padded-at-least, padded-positive}
+use Rattle.list_stored.specs.Stored.{readReason, readAs, readAll}
+use Rattle.list_round_trips.proofs.RoundTrips.{read-list-fine}
 use Rattle.air.specs.Columns.{mainWidth, auxWidth, rowCount, tableShape}
 use Rattle.air.specs.Check.{checkAll}
-use Rattle.u32_table.specs.Filling.{fillReason, fillAll}
-use Rattle.u32_table.specs.Padding.{padAll}
-use Rattle.u32_table.specs.Extending.{extendAll}
-use Rattle.honest.specs.FourCalls.{paddedTable, NoneRefuses}
-use Rattle.honest.proofs.Calls.{fill-answer}
-use Rattle.honest.proofs.FourCalls.{four-calls, after-fill}
+use Rattle.fill.specs.Filling.{fillReason, fillAll}
+use Rattle.fill.specs.Padding.{padAll}
+use Rattle.fill.specs.Extending.{extendAll}
+use Rattle.four_calls.specs.FourCalls.{paddedTable, NoneRefuses}
+use Rattle.four_calls.proofs.Calls.{fill-answer}
+use Rattle.four_calls.proofs.FourCalls.{four-calls, after-fill}
 use Rattle.text.specs.Lines.{refusedLine}
 use Rattle.transcript.specs.Transcript.{challengeBytes, challengesIn, zeros, unusedPlaces, unlessRefused, resultText}
 use Rattle.transcript.specs.Transcript.{checkedText, extendedText, paddedText, callsText, heightText, listText, readText, transcriptOf}

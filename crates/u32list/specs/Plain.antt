@@ -8,13 +8,13 @@ use lib.ListN.{length, drop}
 use Rattle.words.specs.Limits.{maxInput, maxPrintedRows}
 use Rattle.words.specs.Refusals.{refusalNumber}
 use Rattle.words.specs.declared.Refusal.the-variants.{Shape, Short, Torn}
-use Rattle.lists.specs.Lists.{U32List, used}
-use Rattle.lists.specs.Heights.{listHeight}
-use Rattle.aet.specs.Heights.{paddedHeight}
-use Rattle.stored.specs.Stored.{readAll}
+use Rattle.list.specs.Lists.{U32List, used}
+use Rattle.list.specs.Heights.{listHeight}
+use Rattle.list_record.specs.Heights.{paddedHeight}
+use Rattle.list_stored.specs.Stored.{readAll}
 use Rattle.air.specs.Columns.{mainWidth, auxWidth}
-use Rattle.u32_table.specs.Extending.{extendAll}
-use Rattle.honest.specs.FourCalls.{paddedTable}
+use Rattle.fill.specs.Extending.{extendAll}
+use Rattle.four_calls.specs.FourCalls.{paddedTable}
 use Rattle.text.specs.Lines.{refusedLine}
 use Rattle.transcript.specs.Transcript.{challengeBytes, challengesIn, zeros, unusedPlaces, unlessRefused, resultText}
 

@@ -1,7 +1,7 @@
 // Runs the stored vectors of the check: honest, damaged and foreign tables, and all refusals. Standard input has a call a line
 // (tools/vectors.py); what is printed is how many tables were found zero, nonzero or refused, how many answers differ, and how many of the forty
 // constraints were the first nonzero one of some table.
-use checker::Verdict;
+use check_table::Verdict;
 use libc::STDIN_FILENO;
 use vectors::part;
 use vectors::print_count;
@@ -80,7 +80,7 @@ fn check(text: &[u8], from: usize, counts: &mut [u64; 512]) -> usize {
     let rows = take(text, from, &mut table);
     let sums = take(text, rows.next, &mut aux);
     let weights = take(text, sums.next, &mut challenges);
-    let got = numbers_of(checker::check(
+    let got = numbers_of(check_table::check(
         part(&table, rows.length),
         part(&aux, sums.length),
         part(&challenges, weights.length),

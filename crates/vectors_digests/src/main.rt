@@ -1,9 +1,9 @@
 // Evaluates each of the forty constraints by its index on 640 pseudo-random pairs of rows, and prints a digest of its values and how many
 // of them are zero. The original Rust prints the same lines; oracle/src/digests.rs describes the pairs and the digest.
 use field::BFieldElement;
-use layout::AuxRow;
-use layout::Challenges;
-use layout::MainRow;
+use table::AuxRow;
+use table::Challenges;
+use table::MainRow;
 use vectors::print_count;
 use vectors::print_text;
 use xfield::XFieldElement;
@@ -143,13 +143,13 @@ fn note_pair(
     aux: AuxRow,
     aux_next: AuxRow,
 ) -> Digests {
-    let initial = constraints::initial_constraints(challenges, upper, aux);
-    let terminal = constraints::terminal_constraints(upper);
+    let initial = check_rows::initial_constraints(challenges, upper, aux);
+    let terminal = check_rows::terminal_constraints(upper);
     let first = noted(digests, 0, initial[0]);
-    let second = note_consistency(first, constraints::consistency_constraints(upper));
+    let second = note_consistency(first, check_rows::consistency_constraints(upper));
     let third = note_transition(
         second,
-        transitions::transition_constraints(challenges, upper, lower, aux, aux_next),
+        check_pairs::transition_constraints(challenges, upper, lower, aux, aux_next),
     );
     noted(noted(third, 38, terminal[0]), 39, terminal[1])
 }

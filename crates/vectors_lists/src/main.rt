@@ -1,13 +1,13 @@
 // Runs the stored vectors of lists: record, compare, plan, read and write. Standard input has a call a line (tools/vectors.py) with every
 // array before and after it; what is printed is how many calls of each kind answered what, and how many differ.
-use aet::Planned;
-use aet::Recorded;
-use aet::Sizes;
 use isa::Order;
 use isa::U32TableEntry;
 use libc::STDIN_FILENO;
-use stored::Read;
-use stored::Written;
+use list_record::Planned;
+use list_record::Recorded;
+use list_record::Sizes;
+use list_stored::Read;
+use list_stored::Written;
 use vectors::byte_part;
 use vectors::byte_part_mut;
 use vectors::part;
@@ -168,7 +168,7 @@ fn record(text: &[u8], from: usize, counts: &mut [u64; 512]) -> usize {
     let m = list.multiplicities;
     let entry = take_entry(text, list.next);
     let wanted = vectors::skip(text, list.next, 3);
-    let r = aet::record_u32_table_entry_by_value(
+    let r = list_record::record_u32_table_entry_by_value(
         list.sizes,
         part_mut(&mut keys, k),
         part_mut(&mut multiplicities, m),
@@ -229,7 +229,7 @@ fn plan(text: &[u8], from: usize, counts: &mut [u64; 512]) -> usize {
     let mut keys = [0u64; 64];
     let mut multiplicities = [0u64; 64];
     let list = take_list(text, from, &mut keys, &mut multiplicities);
-    let got = planned(aet::plan(
+    let got = planned(list_record::plan(
         list.sizes,
         part(&keys, list.keys),
         part(&multiplicities, list.multiplicities),
@@ -258,7 +258,7 @@ fn read(text: &[u8], from: usize, counts: &mut [u64; 512]) -> usize {
     let n = vectors::within(length.value, 512);
     let mut data = [0u8; 512];
     let wanted = vectors::bytes(text, length.next, &mut data, n);
-    let r = stored::read_list(
+    let r = list_stored::read_list(
         byte_part(&data, n),
         list.sizes,
         part_mut(&mut keys, k),
@@ -282,7 +282,7 @@ fn write(text: &[u8], from: usize, counts: &mut [u64; 512]) -> usize {
     let n = vectors::within(length.value, 512);
     let mut out = [0u8; 512];
     let wanted = vectors::bytes(text, length.next, &mut out, n);
-    let got = written(stored::write_list(
+    let got = written(list_stored::write_list(
         list.sizes,
         part(&keys, list.keys),
         part(&multiplicities, list.multiplicities),
@@ -320,7 +320,14 @@ fn fill_up(
     };
     let mut i: usize = 0;
     while i < n {
-        let r = aet::record_u32_table_entry_by_value(sizes, keys, multiplicities, 6, i as u64, 1);
+        let r = list_record::record_u32_table_entry_by_value(
+            sizes,
+            keys,
+            multiplicities,
+            6,
+            i as u64,
+            1,
+        );
         sizes = r.sizes;
         let answer = r.answer;
         note_position(recorded(answer), i as u64, counts);
@@ -331,11 +338,18 @@ fn fill_up(
 
 // A key more than there are places, then the first key again.
 fn overfill(sizes: Sizes, keys: &mut [u64], multiplicities: &mut [u64], counts: &mut [u64; 512]) {
-    let full = aet::record_u32_table_entry_by_value(sizes, keys, multiplicities, 6, 0, 0);
+    let full = list_record::record_u32_table_entry_by_value(sizes, keys, multiplicities, 6, 0, 0);
     let last = full.answer;
     let refusal = recorded(last);
     tally(counts, 6, refusal.number, refusal.number == 6);
-    let again = aet::record_u32_table_entry_by_value(full.sizes, keys, multiplicities, 6, 0, 1);
+    let again = list_record::record_u32_table_entry_by_value(
+        full.sizes,
+        keys,
+        multiplicities,
+        6,
+        0,
+        1,
+    );
     let first = again.answer;
     note_position(recorded(first), 0, counts);
 }
@@ -364,7 +378,14 @@ fn too_many_places(counts: &mut [u64; 512]) {
         capacity: 2049,
         used: 0,
     };
-    let r = aet::record_u32_table_entry_by_value(sizes, &mut keys, &mut multiplicities, 6, 1, 1);
+    let r = list_record::record_u32_table_entry_by_value(
+        sizes,
+        &mut keys,
+        &mut multiplicities,
+        6,
+        1,
+        1,
+    );
     let answer = r.answer;
     let got = recorded(answer);
     tally(counts, 6, got.number, got.number == 1);

@@ -1,11 +1,11 @@
 // Runs the stored vectors of filling, padding and extension, and of the four calls in a row. Standard input has a call a line (tools/vectors.py) with the arrays before and
 // after it; what is printed is how many calls of each kind answered what, and how many differ in an answer or a word.
-use aet::Sizes;
-use checker::Verdict;
-use extension::Extended;
+use check_table::Verdict;
+use extend::Extended;
+use fill::Filled;
+use fill::Padded;
 use libc::STDIN_FILENO;
-use u32_table::Filled;
-use u32_table::Padded;
+use list_record::Sizes;
 use vectors::part;
 use vectors::part_mut;
 use vectors::print_tally;
@@ -93,7 +93,7 @@ fn fill(text: &[u8], from: usize, counts: &mut [u64; 512]) -> usize {
         capacity: capacity.value as usize,
         used: used.value as usize,
     };
-    let got = filled(u32_table::fill(
+    let got = filled(fill::fill(
         sizes,
         part(&keys, k.length),
         part(&multiplicities, m.length),
@@ -124,7 +124,7 @@ fn pad(text: &[u8], from: usize, counts: &mut [u64; 512]) -> usize {
     let mut table = [0u64; 1024];
     let t = take(text, from, &mut table);
     let count = vectors::number(text, t.next);
-    let number = padded(u32_table::pad(part_mut(&mut table, t.length), count.value as usize));
+    let number = padded(fill::pad(part_mut(&mut table, t.length), count.value as usize));
     let wanted = vectors::number(text, count.next);
     let words = table_is(text, wanted.next, &table, t.length);
     tally(counts, 2, number, both(number == wanted.value, words));
@@ -139,7 +139,7 @@ fn extend(text: &[u8], from: usize, counts: &mut [u64; 512]) -> usize {
     let t = take(text, from, &mut table);
     let a = take(text, t.next, &mut aux);
     let c = take(text, a.next, &mut challenges);
-    let got = extended(extension::extend(
+    let got = extended(extend::extend(
         part(&table, t.length),
         part_mut(&mut aux, a.length),
         part(&challenges, c.length),
@@ -182,7 +182,7 @@ fn whole_run(text: &[u8], from: usize, counts: &mut [u64; 512]) -> usize {
         capacity: capacity.value as usize,
         used: used.value as usize,
     };
-    let number = ran(honest::run(
+    let number = ran(four_calls::run(
         sizes,
         part(&keys, k.length),
         part(&multiplicities, m.length),

@@ -1,8 +1,8 @@
 // Extends and checks a table that anyone may have made, and writes the check's answer: `zero`, or `nonzero` with group, row, index and three
 // words, or `refused` and the number. Standard input is decimal numbers with anything else between them: fifteen challenge words, the number
 // of rows, at most 512, and ten words a row.
-use checker::Verdict;
-use extension::Extended;
+use check_table::Verdict;
+use extend::Extended;
 use libc::STDIN_FILENO;
 use vectors::part;
 use vectors::part_mut;
@@ -34,9 +34,9 @@ fn print_verdict(verdict: Verdict) {
 }
 
 fn judge(table: &[u64], aux: &mut [u64], challenges: &[u64]) {
-    match extension::extend(table, aux, challenges) {
+    match extend::extend(table, aux, challenges) {
         Extended::Refused(reason) => print_refused(reason),
-        Extended::Sum(_) => print_verdict(checker::check(table, aux, challenges)),
+        Extended::Sum(_) => print_verdict(check_table::check(table, aux, challenges)),
     }
 }
 

@@ -1,4 +1,5 @@
 pub mod Limits
 pub mod Refusals
 pub mod Answers
+pub mod Outcomes
 pub mod LittleEndian

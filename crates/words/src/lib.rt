@@ -62,6 +62,12 @@ pub enum Judgement {
     Declined(Refusal),
 }
 
+// The answer of a call that has no value to give: the work is done, or why it is declined.
+pub enum Completed {
+    Done,
+    Refused(Refusal),
+}
+
 // The byte at a place, as a word.
 pub fn byte_at(bytes: &[u8], at: usize) -> u64
     requires { ⌜ at < length (now bytes) ⌝ }

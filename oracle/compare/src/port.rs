@@ -1,4 +1,4 @@
-//! The port's library: the C functions of crates/ffi and crates/probes, on slices.
+//! The port's library: the C functions of crates/u32_table and crates/probes, on slices.
 //!
 //! Every array that is lent is a copy between guard words. After the call the guards must stand; an array that the call only reads must
 //! be as it was; answers must be untouched on a refusal, and so must the words past the stated ones. Otherwise these functions panic with

@@ -6,8 +6,8 @@ use borrow.Author.Needs.{needs}
 use lib.ListN.{length, length-set}
 use lib.Seq.{sets}
 use Rattle.words.specs.LittleEndian.{leAt}
-use Rattle.lists.specs.Places.{placesFrom, places}
-use Rattle.packed.proofs.Places.{map-turn, places-done}
+use Rattle.list.specs.Places.{placesFrom, places}
+use Rattle.list_bytes.proofs.Places.{map-turn, places-done}
 use Rattle.transcript.specs.Transcript.{challengesIn}
 use Rattle.transcript.proofs.Steps.{fifteen}
 use Rattle.transcript.proofs.challenges_in.Statement.{statement}

@@ -1,0 +1,40 @@
+-- What a C function returns and leaves, by the answer that is due: document 01's number, and its values in the first words of the lent array
+-- `answers`. `size` is how many words of `answers` the function states.
+use Prim.Native.Nat.{ℕ, _≤_}
+use mathlib.Core.Path.{_≡_}
+use mathlib.Core.Bool.{Bool, cond}
+use mathlib.Core.List.{List}
+use lib.Dec.{eqb, ltb}
+use lib.ListN.{length}
+use lib.Seq.{sets}
+use Rattle.words.specs.Answers.{Answer}
+use Rattle.words.specs.Refusals.{refusalNumber}
+use Rattle.words.specs.declared.Refusal.the-variants.{Shape}
+use Rattle.list.specs.Lists.{U32List, u32List}
+
+-- a list whose sizes are handed over as two numbers
+abbrev pub lentList : ℕ → ℕ → List ℕ → List ℕ → U32List
+lentList capacity used keys multiplicities = u32List (record { capacity = capacity; used = used }) keys multiplicities
+
+-- `answers` has fewer words than stated: the function refuses with 1 before anything else is looked at
+abbrev pub tooShort : ℕ → List ℕ → Bool
+tooShort size answers = ltb (length answers) size
+
+-- the number returned: 0 for done, else the reason's
+abbrev pub numberDue : ℕ → List ℕ → Answer → ℕ
+numberDue size answers due = cond (tooShort size answers) (refusalNumber Shape) (due .number)
+
+-- the words of `answers` afterwards: where the work is done the values stand first; a refusal leaves them as they were
+abbrev pub answersDue : ℕ → List ℕ → Answer → List ℕ
+answersDue size answers due =
+    cond (tooShort size answers) answers (cond (eqb (due .number) 0) (sets answers 0 (due .values)) answers)
+
+-- another lent array afterwards: as it was where `answers` is too short, else as the call leaves it
+unfoldable pub lentDue : ℕ → List ℕ → List ℕ → List ℕ → List ℕ
+lentDue size answers before after = cond (tooShort size answers) before after
+
+-- the number and the words of `answers` are those that are due, and all values have a word among those stated
+pub record Exported (size : ℕ) (due : Answer) (before : List ℕ) (r : ℕ) (after : List ℕ) : Type 0 where
+  pub number : r ≡ numberDue size before due
+  pub answers : after ≡ answersDue size before due
+  pub fits : size ≤ length before → due .number ≡ 0 → length (due .values) ≤ size

@@ -1,0 +1,51 @@
+-- `c_tables::pad` meets its contract: the number is that of the answer due. Assumes nothing.
+use mathlib.Core.Path.{sym, ap, _∙_}
+use borrow.Author.Needs.{needs}
+use Rattle.words.specs.Answers.{Answer}
+use Rattle.fill.specs.Padding.{paddedAnswer}
+use Rattle.c_tables.proofs.pad.Statement.{statement}
+use Rattle.c_tables.proofs.pad.Tie as tie
+
+pad-requires : tie.Need-pad-requires
+pad-requires c κs = search needs
+
+enum-told : tie.Need-enum-told
+enum-told c = search needs
+
+enum-known-reason : tie.Need-enum-known-reason
+enum-known-reason c = search needs
+
+number-requires : tie.Need-number-requires
+number-requires c κs = search needs
+
+same-length : tie.Need-same-length
+same-length c = search needs
+
+returns : tie.Need-returns
+returns c =
+    let call = c .before .before .before .before .pad in
+    (ap (λ (a : Answer). a .number) (ap paddedAnswer (sym (c .enum-told .given .1)) ∙ call .ensures .answer), call .ensures .table)
+
+same-length-2 : tie.Need-same-length-2
+same-length-2 c = search needs
+
+returns-2 : tie.Need-returns-2
+returns-2 c =
+    let call = c .before .before .before .before .before .before .pad in
+    let reason = c .before .before .reason in (
+      c .number .ensures ∙ ap (λ (a : Answer). a .number) (ap paddedAnswer (sym (reason .given .1)) ∙ call .ensures .answer),
+      call .ensures .table,
+    )
+
+pub pad-spec : {M : Type 1} → statement M
+pad-spec =
+    tie.close
+    (tie.spec
+    pad-requires
+    enum-told
+    enum-known-reason
+    number-requires
+    same-length
+    returns
+    same-length-2
+    returns-2)

@@ -1,0 +1,106 @@
+// The calls on tables as the C functions make them: sizes are numbers, the number of document 01 is returned, and further answers go into
+// `answers`.
+ghost use mathlib.Core.Path.{_≡_};
+ghost use Rattle.air.specs.Check.{checkAll};
+ghost use Rattle.fill.specs.Filling.{fillAll};
+ghost use Rattle.fill.specs.Padding.{padAll};
+ghost use Rattle.fill.specs.Extending.{extendAll};
+ghost use Rattle.c_answers.specs.Exports.{lentList, lentDue, Exported};
+ghost use Rattle.c_tables.specs.TableAnswers.{verdictDue, SaysZeroIff, SaysZeroSound, SaysZeroSums};
+use c_answers::SHAPE;
+use check_table::Verdict;
+use extend::Extended;
+use fill::Filled;
+use fill::Padded;
+use list::Sizes;
+
+// How many words of `answers` each call states.
+const FILL_ANSWERS: usize = 1;
+
+const EXTEND_ANSWERS: usize = 3;
+
+const CHECK_ANSWERS: usize = 7;
+
+// Answers: the height.
+pub fn fill(
+    capacity: usize,
+    used: usize,
+    keys: &[u64],
+    multiplicities: &[u64],
+    table: &mut [u64],
+    answers: &mut [u64],
+) -> u64
+    ensures answers { λ r. ⌜ Exported 1 (fillAll (lentList capacity used (now (keys .entry)) (now (multiplicities .entry))) (now (table .entry)) .answer) (now (answers .entry)) r (now (answers .exit)) ⌝ }
+    ensures table { λ _. ⌜ now (table .exit) ≡ lentDue 1 (now (answers .entry)) (now (table .entry)) (fillAll (lentList capacity used (now (keys .entry)) (now (multiplicities .entry))) (now (table .entry)) .table) ⌝ }
+{
+    if answers.len() < FILL_ANSWERS {
+        return SHAPE;
+    }
+    let sizes = Sizes { capacity, used };
+    match fill::fill(sizes, keys, multiplicities, table) {
+        Filled::Rows(height) => {
+            answers[0] = height;
+            0
+        }
+        Filled::Refused(reason) => reason.number(),
+    }
+}
+
+// It has no answers besides the number.
+pub fn pad(table: &mut [u64], filled: usize) -> u64
+    ensures number { λ r. ⌜ r ≡ padAll (now (table .entry)) filled .answer .number ⌝ }
+    ensures table { λ _. ⌜ now (table .exit) ≡ padAll (now (table .entry)) filled .table ⌝ }
+{
+    match fill::pad(table, filled) {
+        Padded::Done => 0,
+        Padded::Refused(reason) => reason.number(),
+    }
+}
+
+// Answers: the three words of the last sum.
+pub fn extend(table: &[u64], aux: &mut [u64], challenges: &[u64], answers: &mut [u64]) -> u64
+    ensures answers { λ r. ⌜ Exported 3 (extendAll (now (table .entry)) (now (aux .entry)) (now (challenges .entry)) .answer) (now (answers .entry)) r (now (answers .exit)) ⌝ }
+    ensures aux { λ _. ⌜ now (aux .exit) ≡ lentDue 3 (now (answers .entry)) (now (aux .entry)) (extendAll (now (table .entry)) (now (aux .entry)) (now (challenges .entry)) .aux) ⌝ }
+{
+    if answers.len() < EXTEND_ANSWERS {
+        return SHAPE;
+    }
+    match extend::extend(table, aux, challenges) {
+        Extended::Sum(sum) => {
+            answers[0] = sum.0.0;
+            answers[1] = sum.1.0;
+            answers[2] = sum.2.0;
+            0
+        }
+        Extended::Refused(reason) => reason.number(),
+    }
+}
+
+// Answers: 0 where every constraint is zero, and nothing more; else 1, group, row, index and the three words of the value.
+pub fn check(table: &[u64], aux: &[u64], challenges: &[u64], answers: &mut [u64]) -> u64
+    ensures answers { λ r. ⌜ Exported 7 (verdictDue (checkAll (now (table .entry)) (now (aux .entry)) (now (challenges .entry)))) (now (answers .entry)) r (now (answers .exit)) ⌝ }
+    ensures zero_iff { λ r. ⌜ SaysZeroIff (now (table .entry)) (now (aux .entry)) (now (challenges .entry)) (now (answers .entry)) r (now (answers .exit)) ⌝ }
+    ensures sound { λ r. ⌜ SaysZeroSound (now (table .entry)) r (now (answers .exit)) ⌝ }
+    ensures sum { λ r. ⌜ SaysZeroSums (now (table .entry)) (now (aux .entry)) (now (challenges .entry)) r (now (answers .exit)) ⌝ }
+{
+    if answers.len() < CHECK_ANSWERS {
+        return SHAPE;
+    }
+    match check_table::check(table, aux, challenges) {
+        Verdict::Zero => {
+            answers[0] = 0;
+            0
+        }
+        Verdict::Nonzero(group, row, index, value) => {
+            answers[0] = 1;
+            answers[1] = group;
+            answers[2] = row as u64;
+            answers[3] = index as u64;
+            answers[4] = value.0.0;
+            answers[5] = value.1.0;
+            answers[6] = value.2.0;
+            0
+        }
+        Verdict::Refused(reason) => reason.number(),
+    }
+}

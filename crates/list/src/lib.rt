@@ -1,0 +1,168 @@
+// Lists of entries with their multiplicities, judged. A list is its sizes, its keys, three words a place, and its multiplicities, one a place.
+ghost use mathlib.Core.Path.{_≡_};
+ghost use mathlib.Core.Bool.{true};
+ghost use Prim.Native.Nat.{ℕ, _+_, _*_, _≤_, _<_};
+ghost use mathlib.Core.List.{List, [], _∷_};
+ghost use lib.ListN.{length};
+ghost use lib.Seq.{sets};
+ghost use Rattle.isa.specs.Entries.{lhs, rhs};
+ghost use Rattle.list.specs.Lists.{u32List, keyAt, listShape};
+ghost use Rattle.list.specs.Heights.{judgedList};
+ghost use Rattle.list.specs.Keys.{sameKey, findFrom};
+ghost use Rattle.list.specs.Eights.{EightDiffer};
+use isa::Admission;
+use isa::U32TableEntry;
+use words::Judgement;
+use words::MAX_PLACES;
+use words::MULTIPLICITY_LIMIT;
+use words::Refusal;
+
+// A list's places: how many there are, and how many hold an entry.
+pub struct Sizes {
+    pub capacity: usize,
+    pub used: usize,
+}
+
+// A list judged: its height, or why it is declined.
+pub enum Judged {
+    Height(u64),
+    Refused(Refusal),
+}
+
+// Reason 1 against a list. The capacity is tested before it is multiplied.
+pub fn list_shape(sizes: Sizes, keys: &[u64], multiplicities: &[u64]) -> Judgement
+    ensures { λ r. ⌜ r ≡ listShape (u32List sizes (now (keys .entry)) (now (multiplicities .entry))) ⌝ }
+{
+    let capacity = sizes.capacity;
+    if MAX_PLACES < capacity {
+        return Judgement::Declined(Refusal::Shape);
+    }
+    if capacity < sizes.used {
+        return Judgement::Declined(Refusal::Shape);
+    }
+    if keys.len() != 3 * capacity {
+        return Judgement::Declined(Refusal::Shape);
+    }
+    if multiplicities.len() != capacity {
+        return Judgement::Declined(Refusal::Shape);
+    }
+    Judgement::Fine
+}
+
+// The three words at place i.
+pub fn key_at(keys: &[u64], i: usize) -> U32TableEntry
+    requires { ⌜ 3 * i + 2 < length (now keys) ⌝ }
+    ensures { λ r. ⌜ ((s : Sizes) (ms : List ℕ) → r ≡ keyAt (u32List s (now (keys .entry)) ms) i) ⌝ }
+{
+    let at = 3 * i;
+    U32TableEntry {
+        opcode: keys[at],
+        left_operand: keys[at + 1],
+        right_operand: keys[at + 2],
+    }
+}
+
+// The three words at place i become the key.
+pub fn put_key(keys: &mut [u64], i: usize, key: U32TableEntry)
+    requires { ⌜ 3 * i + 2 < length (now keys) ⌝ }
+    ensures { λ _. ⌜ now (keys .exit) ≡ sets (now (keys .entry)) (3 * i) (key .opcode ∷ lhs key ∷ rhs key ∷ []) ⌝ }
+{
+    let at = 3 * i;
+    keys[at] = key.opcode;
+    keys[at + 1] = key.left_operand;
+    keys[at + 2] = key.right_operand;
+}
+
+// Equal keys have equal words.
+pub fn same_key(a: U32TableEntry, b: U32TableEntry) -> bool
+    ensures { λ r. ⌜ r ≡ sameKey a b ⌝ }
+{
+    if a.opcode == b.opcode {
+        if a.left_operand == b.left_operand {
+            return a.right_operand == b.right_operand;
+        }
+    }
+    false
+}
+
+// Yes: the eight places from i on have another LHS.
+fn do_eight_differ(keys: &[u64], i: usize, left_operand: u64) -> bool
+    requires { ⌜ 3 * (i + 8) ≤ length (now keys) ⌝ }
+    ensures { λ r. ⌜ (r ≡ true → EightDiffer (now (keys .entry)) i «left_operand») ⌝ }
+{
+    let at = 3 * i;
+    if keys[at + 1] == left_operand {
+        return false;
+    }
+    if keys[at + 4] == left_operand {
+        return false;
+    }
+    if keys[at + 7] == left_operand {
+        return false;
+    }
+    if keys[at + 10] == left_operand {
+        return false;
+    }
+    if keys[at + 13] == left_operand {
+        return false;
+    }
+    if keys[at + 16] == left_operand {
+        return false;
+    }
+    if keys[at + 19] == left_operand {
+        return false;
+    }
+    if keys[at + 22] == left_operand {
+        return false;
+    }
+    true
+}
+
+// The first of the first n places that holds the key, or n where none does: eight at a time, up to eight that get a no, or to the last eight;
+// from there one by one.
+pub fn find(keys: &[u64], n: usize, key: U32TableEntry) -> usize
+    requires { ⌜ 3 * n ≤ length (now keys) ⌝ }
+    ensures { λ r. ⌜ ((s : Sizes) (ms : List ℕ) → r ≡ findFrom (u32List s (now (keys .entry)) ms) key 0 n) ⌝ }
+{
+    let eights = n / 8;
+    let mut eight: usize = 0;
+    while eight < eights {
+        if !do_eight_differ(keys, 8 * eight, key.left_operand) {
+            break;
+        }
+        eight += 1;
+    }
+    let mut i: usize = 8 * eight;
+    while i < n {
+        if same_key(key_at(keys, i), key) {
+            return i;
+        }
+        i += 1;
+    }
+    i
+}
+
+// Reason 1, then 2 to 5 entry by entry; where there is none, the list's height.
+pub fn judge_list(sizes: Sizes, keys: &[u64], multiplicities: &[u64]) -> Judged
+    ensures { λ r. ⌜ r ≡ judgedList (u32List sizes (now (keys .entry)) (now (multiplicities .entry))) ⌝ }
+{
+    if let Judgement::Declined(reason) = list_shape(sizes, keys, multiplicities) {
+        return Judged::Refused(reason);
+    }
+    let used = sizes.used;
+    let mut height: u64 = 0;
+    let mut place: usize = 0;
+    while place < used {
+        match key_at(keys, place).admit() {
+            Admission::Admitted(e) => {
+                if MULTIPLICITY_LIMIT < multiplicities[place] {
+                    return Judged::Refused(Refusal::CountFull);
+                }
+                height += e.table_height_contribution();
+            }
+            Admission::Refused(reason) => return Judged::Refused(reason),
+        }
+        place += 1;
+    }
+    Judged::Height(height)
+}

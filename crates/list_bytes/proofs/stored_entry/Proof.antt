@@ -1,0 +1,57 @@
+-- `list_bytes::stored_entry` meets its contract: the three words are read at the entry's offsets. Assumes nothing.
+use Prim.Native.Nat.{ℕ, _+_, _*_}
+use mathlib.Core.Path.{_≡_, ap, _∙_}
+use native.Mathlib.Omega.{arith}
+use borrow.Author.Needs.{needs}
+use Rattle.words.specs.LittleEndian.{leAt}
+use Rattle.isa.proofs.Comparing.{entries-same}
+use Rattle.list_bytes.specs.Packed.{storedEntry}
+use Rattle.list_bytes.proofs.stored_entry.Statement.{statement}
+use Rattle.list_bytes.proofs.stored_entry.Tie as tie
+
+mul-at : tie.Need-mul-at
+mul-at c = search needs
+
+add-at : tie.Need-add-at
+add-at c = search needs
+
+byte-at-requires : tie.Need-byte-at-requires
+byte-at-requires c κs = search needs
+
+add-word-at : tie.Need-add-word-at
+add-word-at c = search needs
+
+word-at-requires : tie.Need-word-at-requires
+word-at-requires c κs = search needs
+
+add-word-at-2 : tie.Need-add-word-at-2
+add-word-at-2 c = search needs
+
+word-at-requires-2 : tie.Need-word-at-requires-2
+word-at-requires-2 c κs = search needs
+
+returns : tie.Need-returns
+unfolding storedEntry
+returns c =
+    let args = c .before .before .before .before .args in
+    let s = (args .bytes .now) in
+    let i = args .i in
+    let e : 8 + 17 * i + 1 ≡ 9 + 17 * i = omega arith in
+    let f : 8 + 17 * i + 9 ≡ 17 + 17 * i = omega arith in
+    entries-same
+    (c .before .before .byte-at .ensures .0)
+    (c .before .word-at .ensures ∙ ap (λ (a : ℕ). leAt s a 8) e)
+    (c .word-at2 .ensures ∙ ap (λ (a : ℕ). leAt s a 8) f)
+
+pub stored-entry-spec : {M : Type 1} → statement M
+stored-entry-spec =
+    tie.close
+    (tie.spec
+    mul-at
+    add-at
+    byte-at-requires
+    add-word-at
+    word-at-requires
+    add-word-at-2
+    word-at-requires-2
+    returns)

@@ -1,0 +1,234 @@
+-- Reading and writing, reason by reason: when each reason is given, what it tells that none is, and what is due then.
+use mathlib.Core.Path.{_≡_, refl, sym, ap, subst, _∙_}
+use mathlib.Core.Bool.{Bool, true, false, not, _||_}
+use mathlib.Core.Logic.{_⊎_, inl, inr}
+use native.Mathlib.Decide.{ℕ-discrete}
+use mathlib.Core.List.{List, map, flatMap}
+use Prim.Native.Nat.{ℕ, _≤_, _<_, zero-le}
+use native.Mathlib.Nat.{zero-add}
+use native.Mathlib.Omega.{arith}
+use borrow.Author.Tests.{ltb-false, lt-ltb, le-ltb, eqb-true, eq-eqb, ne-eqb}
+use lib.Dec.{eqb}
+use lib.ListN.{length}
+use lib.Seq.{sets}
+use Rattle.words.specs.declared.Judgement.the-variants.{Fine, Declined}
+use Rattle.words.specs.declared.Refusal.{Refusal}
+use Rattle.words.specs.declared.Refusal.the-variants.{CountFull, ListFull, Short, Torn, Repeat, Tally}
+use Rattle.words.specs.Limits.{multiplicityLimit}
+use Rattle.words.proofs.Judgements.{or-first, or-next, or-both, decline-fine, decline-true, decline-false, decline-not-fine, first-fine, first-none}
+use Rattle.list.specs.Lists.{U32List, u32List, capacity, used, entryAt, listShape, countFull, judgeList}
+use Rattle.list.specs.Heights.{sumHeights}
+use Rattle.list.proofs.JudgedLists.{Shaped, shaped, shape-fine}
+use Rattle.list_stored.specs.declared.Read.the-variants.{Entries, Refused}
+use Rattle.list_stored.specs.declared.Written.the-variants.{Length, Refused as WriteRefused}
+use Rattle.list.specs.Places.{places}
+use Rattle.list_bytes.specs.Packed.{storedPlaces, lengthWith, storedLength, oldLength, widthOf, storedBytes, storedN, storedHeight, storedEntry, storedMultiplicity, storedEntries, keyWords}
+use Rattle.list_repeats.specs.Repeats.{repeats}
+use Rattle.list_stored.specs.Stored.{torn, admitStored, judgeStored, tally, contentReason, readReason, readAll, IsRead, writeReason, writeAll, IsWritten}
+use Rattle.list_bytes.proofs.Places.{length-stored-places, stored-entries}
+use Rattle.list_bytes.proofs.Format.{width-old, width-other}
+use Rattle.list_repeats.proofs.Repeats.{or-true}
+
+-- ---- bytes that are whole
+
+both-false : (a b : Bool) → a || b ≡ false → (a ≡ false) × (b ≡ false)
+both-false false b e = (refl, e)
+both-false true b e = absurd (let z : _≡_ {A = ℕ} 0 1 = cc in omega arith)
+
+pub record Whole (s : List ℕ) : Type 0 where
+  pub few : storedN s ≤ 2048
+  pub long : length s ≡ lengthWith (widthOf s) (storedN s)
+
+both-not : (a b : Bool) → not (a || b) ≡ false → (a ≡ true) ⊎ (b ≡ true)
+both-not true b e = inl refl
+both-not false true e = inr refl
+both-not false false e = absurd (let z : _≡_ {A = ℕ} 0 1 = cc in omega arith)
+
+module _ (s : List ℕ) where
+  -- of the old length
+  pub old-long : length s ≡ oldLength (storedN s) → length s ≡ lengthWith (widthOf s) (storedN s)
+  old-long e = e ∙ ap (λ (w : ℕ). lengthWith w (storedN s)) (sym (width-old s e))
+
+  -- of the new one, which is the old one where there is no entry
+  pub new-long : length s ≡ storedLength (storedN s) → length s ≡ lengthWith (widthOf s) (storedN s)
+  new-long e = go (ℕ-discrete (length s) (oldLength (storedN s)))
+    where
+      go : Dec (length s ≡ oldLength (storedN s)) → length s ≡ lengthWith (widthOf s) (storedN s)
+      go (yes f) = old-long f
+      go (no f) = e ∙ ap (λ (w : ℕ). lengthWith w (storedN s)) (sym (width-other s f))
+
+pub whole-room : (s : List ℕ) (n : ℕ) → n ≡ storedN s → Whole s → lengthWith (widthOf s) n ≤ length s
+whole-room s n e h = subst (λ (k : ℕ). lengthWith (widthOf s) k ≤ length s) (sym e) (omega (arith, h .long))
+
+pub whole : (s : List ℕ) → torn s ≡ Fine → Whole s
+unfolding torn
+whole s e =
+    let a = both-false _ _ (decline-fine _ Torn e) in
+    record { few = ltb-false 2048 (storedN s) (a .0); long = go (both-not _ _ (a .1)) }
+  where
+    go : (eqb (length s) (oldLength (storedN s)) ≡ true) ⊎ (eqb (length s) (storedLength (storedN s)) ≡ true)
+        → length s ≡ lengthWith (widthOf s) (storedN s)
+    go (inl h) = old-long s (eqb-true _ _ h)
+    go (inr h) = new-long s (eqb-true _ _ h)
+
+module _ (s : List ℕ) where
+  whole-right : Whole s → eqb (length s) (oldLength (storedN s)) || eqb (length s) (storedLength (storedN s)) ≡ true
+  whole-right h = go (ℕ-discrete (length s) (oldLength (storedN s)))
+    where
+      go : Dec (length s ≡ oldLength (storedN s)) → eqb (length s) (oldLength (storedN s)) || eqb (length s) (storedLength (storedN s)) ≡ true
+      go (yes f) = rw (eq-eqb _ _ f)
+      go (no f) =
+          let e : length s ≡ storedLength (storedN s) = h .long ∙ ap (λ (w : ℕ). lengthWith w (storedN s)) (width-other s f) in
+          rw (ne-eqb _ _ f, eq-eqb _ _ e)
+
+  pub whole-fine : Whole s → torn s ≡ Fine
+  unfolding torn
+  whole-fine h = rw (le-ltb 2048 (storedN s) (h .few), whole-right h)
+
+  pub torn-many : 2048 < storedN s → torn s ≡ Declined Torn
+  unfolding torn
+  torn-many h = rw (lt-ltb 2048 (storedN s) h)
+
+  pub torn-length : (length s ≡ oldLength (storedN s) → ⊥) → (length s ≡ storedLength (storedN s) → ⊥) → torn s ≡ Declined Torn
+  unfolding torn
+  torn-length f g = rw (ne-eqb (length s) (oldLength (storedN s)) f, ne-eqb (length s) (storedLength (storedN s)) g, or-true)
+
+  -- bytes too few for the number of entries and the height
+  pub torn-short : length s < 8 → torn s ≡ Declined Torn
+  torn-short h = torn-length (λ e. omega arith) (λ e. omega arith)
+
+-- ---- reading
+
+stored-told : (s : List ℕ) (i : ℕ) → judgeStored s i ≡ Fine → (admitStored (storedEntry s i) ≡ Fine) × (storedMultiplicity s i ≤ multiplicityLimit)
+unfolding judgeStored countFull
+stored-told s i e =
+    let a = or-both _ _ e in
+    (a .0, ltb-false multiplicityLimit (storedMultiplicity s i) (decline-fine _ CountFull (a .1)))
+
+stored-fine : (s : List ℕ) (i : ℕ) → admitStored (storedEntry s i) ≡ Fine → storedMultiplicity s i ≤ multiplicityLimit → judgeStored s i ≡ Fine
+unfolding judgeStored countFull
+stored-fine s i e m = or-next _ e ∙ decline-false CountFull (le-ltb multiplicityLimit (storedMultiplicity s i) m)
+
+pub record Readable (l : U32List) (s : List ℕ) : Type 0 where
+  pub shape : Shaped l
+  pub complete : Whole s
+  pub room : storedN s ≤ capacity l
+  pub entries : (i : ℕ) → i < storedN s → admitStored (storedEntry s i) ≡ Fine
+  pub counts : (i : ℕ) → i < storedN s → storedMultiplicity s i ≤ multiplicityLimit
+  pub distinct : repeats (storedEntries s) ≡ false
+  pub tallied : storedHeight s ≡ sumHeights (storedEntries s)
+
+pub readable : (l : U32List) (s : List ℕ) → readReason l s ≡ Fine → Readable l s
+unfolding readReason contentReason tally
+readable l s e =
+    let a = or-both _ _ e in
+    let b = or-both _ _ (a .1) in
+    let c = or-both _ _ (b .1) in
+    let d = or-both _ _ (c .1) in
+    let f = or-both _ _ (d .1) in
+    record {
+      shape = shaped l (a .0);
+      complete = whole s (b .0);
+      room = ltb-false (capacity l) (storedN s) (decline-fine _ ListFull (c .0));
+      entries = λ i h. stored-told s i (first-fine (judgeStored s) 0 (storedN s) (d .0) i zero-le (rw zero-add h)) .0;
+      counts = λ i h. stored-told s i (first-fine (judgeStored s) 0 (storedN s) (d .0) i zero-le (rw zero-add h)) .1;
+      distinct = decline-fine _ Repeat (f .0);
+      tallied = eqb-true (storedHeight s) (sumHeights (storedEntries s)) (decline-not-fine _ Tally (f .1));
+    }
+
+pub readable-fine : (l : U32List) (s : List ℕ) → Readable l s → readReason l s ≡ Fine
+unfolding readReason contentReason tally
+readable-fine l s h =
+    or-next _ (shape-fine l (h .shape))
+    ∙ or-next _ (whole-fine s (h .complete))
+    ∙ or-next _ (decline-false ListFull (le-ltb (capacity l) (storedN s) (h .room)))
+    ∙ or-next _ (first-none _ 0 (storedN s) (λ i p q. stored-fine s i (h .entries i (omega arith)) (h .counts i (omega arith))))
+    ∙ or-next _ (decline-false Repeat (h .distinct))
+    ∙ rw (eq-eqb (storedHeight s) (sumHeights (storedEntries s)) (h .tallied))
+
+-- reason by reason
+module _ (l : U32List) (s : List ℕ) where
+  pub read-shape : {k : Refusal} → listShape l ≡ Declined k → readReason l s ≡ Declined k
+  unfolding readReason
+  read-shape e = or-first _ e
+
+  module _ (sh : listShape l ≡ Fine) where
+    pub read-torn : {k : Refusal} → torn s ≡ Declined k → readReason l s ≡ Declined k
+    unfolding readReason
+    read-torn e = or-next _ sh ∙ or-first _ e
+
+    pub read-full : torn s ≡ Fine → capacity l < storedN s → readReason l s ≡ Declined ListFull
+    unfolding readReason
+    read-full e h = or-next _ sh ∙ or-next _ e ∙ or-first _ (decline-true ListFull (lt-ltb (capacity l) (storedN s) h))
+
+    pub read-content : torn s ≡ Fine → storedN s ≤ capacity l → readReason l s ≡ contentReason s
+    unfolding readReason
+    read-content e h = or-next _ sh ∙ or-next _ e ∙ or-next _ (decline-false ListFull (le-ltb (capacity l) (storedN s) h))
+
+  -- what is due then
+  pub read-refused : {k : Refusal} → readReason l s ≡ Declined k → IsRead (readAll l s) (Refused k) l
+  unfolding readAll
+  read-refused e = rw e (record { answer = refl; list = refl })
+
+  pub read-done : (n : ℕ) (ks ms : List ℕ) → readReason l s ≡ Fine → n ≡ storedN s
+      → ks ≡ sets (l .keys) 0 (flatMap (λ i. keyWords (storedEntry s i)) (places n))
+      → ms ≡ sets (l .multiplicities) 0 (map (storedMultiplicity s) (places n))
+      → IsRead (readAll l s) (Entries n) (u32List (record { capacity = capacity l; used = n }) ks ms)
+  unfolding readAll
+  read-done n ks ms e en ek em = rw (e, ek, em, en) (record { answer = refl; list = refl })
+
+-- ---- writing
+
+pub record Writable (l : U32List) (out : List ℕ) : Type 0 where
+  pub list : judgeList l ≡ Fine
+  pub distinct : repeats (map (entryAt l) (places (used l))) ≡ false
+  pub room : storedLength (used l) ≤ length out
+
+pub writable : (l : U32List) (out : List ℕ) → writeReason l out ≡ Fine → Writable l out
+unfolding writeReason
+writable l out e =
+    let a = or-both _ _ e in
+    let b = or-both _ _ (a .1) in
+    let r = ltb-false (length out) (storedLength (length (storedPlaces l))) (decline-fine _ Short (b .1)) in
+    record {
+      list = a .0;
+      distinct = ap repeats (sym (stored-entries l)) ∙ decline-fine _ Repeat (b .0);
+      room = rw length-stored-places at r;
+    }
+
+-- reason by reason
+module _ (l : U32List) (out : List ℕ) where
+  pub write-list : {k : Refusal} → judgeList l ≡ Declined k → writeReason l out ≡ Declined k
+  unfolding writeReason
+  write-list e = or-first _ e
+
+  module _ (fine : judgeList l ≡ Fine) where
+    pub write-repeat : repeats (map (entryAt l) (places (used l))) ≡ true → writeReason l out ≡ Declined Repeat
+    unfolding writeReason
+    write-repeat e = or-next _ fine ∙ or-first _ (decline-true Repeat (ap repeats (stored-entries l) ∙ e))
+
+    module _ (none : repeats (map (entryAt l) (places (used l))) ≡ false) where
+      pub write-short : length out < storedLength (used l) → writeReason l out ≡ Declined Short
+      unfolding writeReason
+      write-short h =
+          or-next _ fine
+          ∙ or-next _ (decline-false Repeat (ap repeats (stored-entries l) ∙ none))
+          ∙ rw (length-stored-places l, lt-ltb (length out) (storedLength (used l)) h)
+
+      pub write-fine : storedLength (used l) ≤ length out → writeReason l out ≡ Fine
+      unfolding writeReason
+      write-fine h =
+          or-next _ fine
+          ∙ or-next _ (decline-false Repeat (ap repeats (stored-entries l) ∙ none))
+          ∙ rw (length-stored-places l, le-ltb (length out) (storedLength (used l)) h)
+
+  -- what is due then
+  pub written-refused : {k : Refusal} → writeReason l out ≡ Declined k → IsWritten (writeAll l out) (WriteRefused k) out
+  unfolding writeAll
+  written-refused e = rw e (record { answer = refl; bytes = refl })
+
+  pub written-done : (n : ℕ) (after : List ℕ) → writeReason l out ≡ Fine → n ≡ storedLength (used l) → after ≡ sets out 0 (storedBytes l)
+      → IsWritten (writeAll l out) (Length n) after
+  unfolding writeAll
+  written-done n after e en eb =
+      rw (e, length-stored-places l, en, eb) (record { answer = refl; bytes = refl })
