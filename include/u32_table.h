@@ -4,19 +4,26 @@
  *
  *     cc -Iinclude program.c target/staticlib/libu32_table.a
  *
- * They allocate nothing, keep nothing between calls, use of the C library only memset, and may run on many threads at once. u32_table_read
- * takes about 120 KB of stack, u32_table_write 50 KB, u32_table_fill 10 KB, the others at most 1 KB.
+ * (tests/ffi/example.c is such a program.) A program that includes this header needs a library of these signatures, or it does not link.
+ *
+ * They allocate nothing, keep nothing between calls, use of the C library only memcpy and memset, and may run on many threads at once.
+ *
+ * Stack. u32_table_read takes up to 120 KB of it (a KB is 1,000 bytes), u32_table_write 52 KB, u32_table_fill 12 KB, each of the others 2 KB.
  *
  * Arrays. Each is a pointer and the number of its elements (words of 64 bits, or bytes). The caller sees to what the proof takes for
- * granted: a pointer is not null and is aligned, that many elements are there, and no array that a call may write overlaps another array
- * of the same call. Nothing else is asked of any argument: every number and every content is answered.
+ * granted: a pointer is aligned, that many elements are there, and no array that a call may write overlaps another array of the same call. A
+ * pointer to 0 elements may be NULL: nothing is read or written there. Nothing else is asked of any argument: every number and every content
+ * is answered.
  *
  * Numbers. Each function returns 0 where the work is done, and else the number of the first reason to decline, in the order that its comment
  * gives. After a refusal every array is as it was. `answers` receives what a call answers besides its number. Where it has fewer words
  * than U32_TABLE_.._ANSWERS says, the call returns U32_TABLE_SHAPE before anything else is looked at. Words past those stated are not
  * touched.
  *
- * Elements are words below U32_TABLE_P; an element of the extension is three words a, b, c for a + b X + c X^2 with X^3 = X - 1. */
+ * Later libraries may have more numbers than those named here.
+ *
+ * Elements are words below U32_TABLE_P, the canonical value of an element and not its Montgomery form; an element of the extension is three words
+ * a, b, c for a + b X + c X^2 with X^3 = X - 1. */
 #ifndef U32_TABLE_H
 #define U32_TABLE_H
 
@@ -26,6 +33,16 @@
 #ifdef __cplusplus
 extern "C" {
 #endif
+
+/* The number of the signatures below, as a symbol of the library: each program names it here, so one that was compiled for other signatures than
+ * the library has does not link. The number is raised whenever a signature changes: here, in crates/u32_table and in the Rust crate. */
+uint64_t u32_table_abi_1(void);
+#ifdef __has_attribute
+#if __has_attribute(retain)
+__attribute__((retain))
+#endif
+#endif
+__attribute__((used)) static uint64_t (*const u32_table_abi)(void) = u32_table_abi_1;
 
 /* Reasons to decline. */
 enum {
@@ -83,7 +100,8 @@ enum {
 /* The number of elements of the base field, 2^64 - 2^32 + 1. */
 #define U32_TABLE_P UINT64_C(18446744069414584321)
 
-/* Bytes that a stored list of n entries takes. Lists of the old length, 8 + 21 n, are still read; see u32_table_read. */
+/* Bytes that a stored list of n entries takes, n at most U32_TABLE_MAX_PLACES. Lists of the old length, 8 + 21 n, are still read; see
+ * u32_table_read. */
 #define U32_TABLE_STORED_BYTES(n) (8 + 25 * (size_t)(n))
 
 /* How many words of `answers` each call states; u32_table_pad has none. */

@@ -6,6 +6,11 @@
 Reads the edits' own comments and what the prover said of each (target/must-fail, target/must-fail-more). Ends with status 1 where an edit was not tried, and where its
 first error shows only that the proof no longer fits the code (a name that is not there), which says nothing of the contract. With --keep an edit that was not tried
 here keeps the fact that the page names already: for use after the edits of some crates were tried.
+
+    tools/must_fail_table.py --check
+
+compares the stored page with the folders: each edit stands in it, under its crate, with its own comment and its mark, and no other does. The facts are taken from
+the page: they are known only once the edits were tried.
 """
 import pathlib
 import re
@@ -77,9 +82,30 @@ def kept():
     return facts
 
 
-def main():
+def check():
+    """What the page has that the folders have not, and the reverse."""
+    stored = (ROOT / "docs" / "MUST-FAIL.md").read_text()
+    made, _ = page(kept(), tried=False)
+    stored_lines, made_lines = (places(text) for text in (stored, made))
+    wrong = [f"{where}, which is in the page but not in the folders: {line}" for where, line in sorted(stored_lines - made_lines)]
+    wrong += [f"{where}, which is in the folders but not in the page: {line}" for where, line in sorted(made_lines - stored_lines)]
+    return wrong or (["its head, its order or its count"] if stored != made else [])
+
+
+def places(text):
+    """Each line of a page's tables, with the crate that it stands under."""
+    found, crate = set(), ""
+    for line in text.splitlines():
+        if line.startswith("## "):
+            crate = line[3:].strip()
+        elif crate and line.startswith("| ") and not line.startswith("| edit |"):
+            found.add((crate, line))
+    return found
+
+
+def page(before, tried=True):
+    """The page, and what is wrong with it. `before` has the facts of edits that were not tried here; with `tried` false all are taken from there."""
     bad = []
-    before = kept() if "--keep" in sys.argv[1:] else {}
     out = [HEAD]
     count = 0
     order = [l.split(":")[0].strip() for l in (ROOT / "crates.txt").read_text().splitlines() if ":" in l and not l.startswith("#")]
@@ -90,7 +116,7 @@ def main():
         out.append(f"## {crate}\n\n| edit | the wrong program | the fact that fails |\n|---|---|---|")
         for edit in edits:
             log = ROOT / "target" / edit.parent.name / crate / edit.stem / ".log"
-            error = first_error(log, f"must-fail/{crate}/{edit.stem}") if log.is_file() else None
+            error = first_error(log, f"must-fail/{crate}/{edit.stem}") if tried and log.is_file() else None
             more = "" if edit.parent.name == "must-fail" else " +"
             if error is None and (crate, edit.stem) in before:
                 count += 1
@@ -98,6 +124,9 @@ def main():
                 continue
             if error is None:
                 bad.append(f"{crate}/{edit.stem}: not tried, or no error found")
+                if not tried:
+                    count += 1
+                    out.append(f"| {edit.stem}{more} | {comment(edit)} | ? |")
                 continue
             place, name, message = error
             if any(words in message for words in SHAPE_ONLY):
@@ -109,7 +138,17 @@ def main():
         f"{count} edits. The first error names the goal, or the two sides that do not agree, or says that a rewriting step finds nothing to rewrite, since what is\n"
         "stated has changed. In none is it a name that is missing."
     )
-    print("\n".join(out))
+    return "\n".join(out) + "\n", bad
+
+
+def main():
+    if sys.argv[1:] == ["--check"]:
+        wrong = check()
+        for line in wrong:
+            print(f"docs/MUST-FAIL.md is not current: {line[:200]}")
+        return 1 if wrong else 0
+    text, bad = page(kept() if "--keep" in sys.argv[1:] else {})
+    sys.stdout.write(text)
     for line in bad:
         print(line, file=sys.stderr)
     return 1 if bad else 0

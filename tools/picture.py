@@ -1,18 +1,18 @@
 #!/usr/bin/env python3
-"""Draws which crate stands on which, from crates.txt.
+"""Draws which crate stands on which, from crates.txt: a frame for each room.
 
     tools/picture.py > docs/crates.svg
     tools/picture.py --text
 
 A crate stands above all that it depends on. An arrow that follows from others is left out (a crate that stands on `air` stands on all
-below it), and so are the programs that test and measure. With --text all crates are printed line by line: a crate's level, the crate, and what it stands on directly. With --check the stored
-picture is compared with what would be drawn.
+below it), and so are the programs that test and measure. With --text all crates are printed line by line: a crate's level, the crate, and what it stands
+on directly. With --check the stored picture is compared with what would be drawn.
 """
 import pathlib
 import sys
 
 ROOT = pathlib.Path(__file__).resolve().parent.parent
-WIDE, HIGH, GAP_X, GAP_Y, EDGE = 118, 30, 22, 44, 20
+WIDE, HIGH, GAP_X, GAP_Y, EDGE, FRAME = 122, 28, 26, 54, 34, 10
 TESTS = ("vectors", "probes", "bench")
 KINDS = {
     "call": ("#dcebf7", "#3b6e98", "code with calls of document 01"),
@@ -22,16 +22,21 @@ KINDS = {
 }
 KIND = {
     "field": "call", "xfield": "call", "isa": "call", "list_record": "call", "list_stored": "call", "check_table": "call", "fill": "call",
-    "extend": "call", "transcript": "call", "air": "theory", "four_calls": "theory", "list_round_trips": "theory",
-    "u32list_example": "theory", "u32list": "program",
-    "u32_table": "program",
+    "extend": "call", "transcript": "call", "sums": "theory", "air": "theory", "row_bound": "theory", "four_calls": "theory",
+    "list_round_trips": "theory", "u32list_example": "theory", "u32list": "program", "u32check": "program", "u32_table": "program",
 }  # fmt: skip
 
-# the columns: lists; entries and C calls; elements; the check; tables; text
-LANE = {
-    "list": 0, "list_record": 0, "list_stored": 0, "list_round_trips": 0, "words": 1, "isa": 1, "list_bytes": 1, "fill": 4, "extend": 4, "c_tables": 1, "u32_table": 1,
-    "field": 2, "list_repeats": 2, "c_answers": 2, "c_lists": 2, "four_calls": 2, "check_plain": 2, "xfield": 3, "air": 3, "table": 3, "check_rows": 3, "check_pairs": 3,
-    "check_search": 3, "check_table": 3, "fill_results": 4, "fill_sections": 4, "u32list_example": 4, "text": 5, "transcript": 5, "u32list": 5,
+# A room: its name, and its crates with the column of each. Rooms share a column only where one stands above the other.
+ROOMS = {
+    "words, entries": {"words": 1, "isa": 1},
+    "elements": {"field": 3, "xfield": 3},
+    "lists": {"list": 1, "list_record": 0, "list_bytes": 1, "list_repeats": 2, "list_stored": 1, "list_round_trips": 1},
+    "table": {"table": 3, "sums": 3},
+    "check": {"air": 3, "check_rows": 3, "check_plain": 4, "check_pairs": 3, "check_search": 3, "check_table": 3},
+    "filling": {"fill_results": 5, "fill_sections": 5, "fill": 5, "extend": 5},
+    "the four calls": {"row_bound": 5, "four_calls": 5},
+    "programs": {"text": 6, "transcript": 6, "numbers": 7, "names": 8, "streams": 9, "u32list_example": 6, "u32list": 9, "table_text": 7, "u32check": 8},
+    "C functions": {"c_answers": 1, "c_lists": 1, "c_tables": 2, "u32_table": 1},
 }  # fmt: skip
 
 
@@ -61,34 +66,25 @@ def direct(deps):
 
 
 def levels(deps):
-    """The crates in rows from the bottom up: a crate stands directly below the lowest that stands on it."""
-    least = {}
-    for name in deps:
-        least[name] = 1 + max((least[d] for d in deps[name]), default=-1)
-    top = max(least.values())
+    """The level of each crate: one above the highest that it stands on."""
     level = {}
+    for name in deps:
+        level[name] = 1 + max((level[d] for d in deps[name]), default=-1)
+    return level
+
+
+def drawn_levels(deps):
+    """The same, with each room's crates drawn up as far as those that stand on them let them, so that frames are small and apart."""
+    level = levels(deps)
+    room = {name: title for title, names in ROOMS.items() for name in names}
     for name in reversed(list(deps)):
         users = [level[n] for n, ds in deps.items() if name in ds]
-        level[name] = min(users, default=top + 1) - 1
-    rows = [[] for _ in range(top + 1)]
-    for name in deps:
-        rows[level[name]].append(name)
-    return rows
-
-
-def lanes(rows, edges):
-    """The column of each crate: the one set above, or that of the first crate that stands on it; no two of a row share one."""
-    lane = {}
-    for row in reversed(rows):
-        taken = set()
-        for name in row:
-            users = [n for n, ds in edges.items() if name in ds and n in lane]
-            wish = LANE.get(name, lane[users[0]] if users else 0)
-            while wish in taken:
-                wish += 1
-            taken.add(wish)
-            lane[name] = wish
-    return lane
+        same = [level[n] for n, ds in deps.items() if name in ds and room[n] == room[name]]
+        if same:
+            level[name] = min(same) - 1
+        elif users and not [d for d in deps[name] if room[d] == room[name]] and len(ROOMS[room[name]]) > 1:
+            level[name] = max(level[name], min(users) - 1)
+    return level
 
 
 def kind(name):
@@ -97,52 +93,60 @@ def kind(name):
 
 def svg(deps):
     deps = {n: ds for n, ds in deps.items() if not n.startswith(TESTS)}
+    rooms = {name: (title, column) for title, names in ROOMS.items() for name, column in names.items()}
+    strangers = sorted(set(deps) ^ set(rooms))
+    if strangers:
+        sys.exit(f"tools/picture.py and crates.txt differ on {', '.join(strangers)}: give each crate a room")
     edges = direct(deps)
-    rows = levels(deps)
-    lane = lanes(rows, edges)
-    most = 1 + max(lane.values())
-    width = max(740, 2 * EDGE + most * (WIDE + GAP_X) - GAP_X)
-    height = 2 * EDGE + len(rows) * (HIGH + GAP_Y) - GAP_Y + 40
-    at = {}
-    for k, row in enumerate(rows):
-        for name in row:
-            at[name] = (EDGE + lane[name] * (WIDE + GAP_X), height - 40 - EDGE - HIGH - k * (HIGH + GAP_Y))
+    level = drawn_levels(deps)
+    width = 2 * EDGE + (1 + max(c for _, c in rooms.values())) * (WIDE + GAP_X) - GAP_X
+    height = 2 * EDGE + (1 + max(level.values())) * (HIGH + GAP_Y) - GAP_Y + 60
+    at = {n: (EDGE + rooms[n][1] * (WIDE + GAP_X), height - 60 - EDGE - HIGH - level[n] * (HIGH + GAP_Y)) for n in deps}
+    if len(set(at.values())) != len(at):
+        sys.exit("tools/picture.py: two crates in one place: give one of them another column")
+    frames = {}
+    for title, names in ROOMS.items():
+        xs, ys = [at[n][0] for n in names], [at[n][1] for n in names]
+        frames[title] = (min(xs) - FRAME, min(ys) - FRAME - 14, max(xs) + WIDE + FRAME, max(ys) + HIGH + FRAME)
+    for a, (x, y, u, v) in frames.items():
+        for b, (x2, y2, u2, v2) in frames.items():
+            if a < b and x < u2 and x2 < u and y < v2 and y2 < v:
+                sys.exit(f"tools/picture.py: the frames of {a} and {b} overlap: give their crates other columns")
     out = [
-        f'<svg xmlns="http://www.w3.org/2000/svg" width="{width:.0f}" height="{height:.0f}" viewBox="0 0 {width:.0f} {height:.0f}" '
+        f'<svg xmlns="http://www.w3.org/2000/svg" width="{width}" height="{height}" viewBox="0 0 {width} {height}" '
         'font-family="sans-serif" font-size="13">',
         "<title>Which crate stands on which</title>",
         "<desc>" + "; ".join(f"{n} on {', '.join(d) if d else 'nothing'}" for n, d in edges.items()) + "</desc>",
-        f'<rect width="{width:.0f}" height="{height:.0f}" fill="#ffffff"/>',
+        f'<rect width="{width}" height="{height}" fill="#ffffff"/>',
     ]
+    for title, (x, y, u, v) in frames.items():
+        out.append(f'<rect x="{x}" y="{y}" width="{u - x}" height="{v - y}" rx="8" fill="#fafafa" stroke="#c8c8c8" stroke-dasharray="4 3"/>')
     for name, ds in edges.items():
         x, y = at[name]
         for d in ds:
             u, v = at[d]
-            a, b, c, e = x + WIDE / 2, y + HIGH, u + WIDE / 2, v
-            out.append(
-                f'<path d="M{a:.0f} {b:.0f} C{a:.0f} {b + 22:.0f} {c:.0f} {e - 22:.0f} {c:.0f} {e:.0f}" fill="none" '
-                'stroke="#9a9a9a" stroke-width="1"/>'
-            )
+            a, b, c, e = x + WIDE // 2, y + HIGH, u + WIDE // 2, v
+            out.append(f'<path d="M{a} {b} C{a} {b + 26} {c} {e - 26} {c} {e}" fill="none" stroke="#9a9a9a" stroke-width="1"/>')
+    for title, (x, y, u, v) in frames.items():
+        out.append(f'<text x="{x + 8}" y="{y + 15}" font-size="12" fill="#555555">{title}</text>')
     for name, (x, y) in at.items():
         fill, line, _ = KINDS[kind(name)]
-        out.append(f'<rect x="{x:.0f}" y="{y:.0f}" width="{WIDE}" height="{HIGH}" rx="4" fill="{fill}" stroke="{line}"/>')
-        out.append(f'<text x="{x + WIDE / 2:.0f}" y="{y + 20:.0f}" text-anchor="middle">{name}</text>')
-    x = EDGE
+        out.append(f'<rect x="{x}" y="{y}" width="{WIDE}" height="{HIGH}" rx="4" fill="{fill}" stroke="{line}"/>')
+        out.append(f'<text x="{x + WIDE // 2}" y="{y + 19}" text-anchor="middle">{name}</text>')
+    x, y = EDGE, height - 44
     for fill, line, words in KINDS.values():
-        y = height - 28
-        out.append(f'<rect x="{x:.0f}" y="{y:.0f}" width="14" height="14" fill="{fill}" stroke="{line}"/>')
-        out.append(f'<text x="{x + 20:.0f}" y="{y + 12:.0f}" font-size="12">{words}</text>')
-        x += 44 + 6.2 * len(words)
+        out.append(f'<rect x="{x}" y="{y}" width="14" height="14" fill="{fill}" stroke="{line}"/>')
+        out.append(f'<text x="{x + 20}" y="{y + 12}" font-size="12">{words}</text>')
+        x += 44 + 6 * len(words)
+    out.append(f'<text x="{EDGE}" y="{height - 14}" font-size="12">Lines go down to what a crate stands on; those that follow from others are left out.</text>')
     out.append("</svg>")
     return "\n".join(out) + "\n"
 
 
 def text(deps):
     edges = direct(deps)
-    lines = []
-    for k, row in enumerate(levels(deps)):
-        for name in row:
-            lines.append(f"{k:2} {name:16} {' '.join(edges[name])}".rstrip())
+    level = levels(deps)
+    lines = [f"{level[name]:2} {name:16} {' '.join(edges[name])}".rstrip() for name in sorted(deps, key=lambda n: level[n])]
     return "\n".join(lines) + "\n"
 
 

@@ -1,5 +1,5 @@
 #!/usr/bin/env python3
-"""Makes samples/: inputs of u32list with the text that is due, and tables for vectors_verdict.
+"""Makes samples/: inputs of u32list with the text that is due, and tables for u32check.
 
     tools/samples.py samples
 
@@ -187,7 +187,7 @@ def old_samples():
 
 
 def tables():
-    """The challenges, the number of rows and the rows, for vectors_verdict."""
+    """The challenges, the number of rows and the rows, for u32check."""
     challenges = drawn(3)
     _, table = padded_table({(AND, 3, 1): 2, (LT, 5, 9): 3, (POP, 7, 0): 1}, least=1)
     yield "honest", challenges, table
@@ -216,7 +216,7 @@ def main():
         (folder / f"{longer}.bin").write_bytes((folder / f"{name}.bin").read_bytes() + b"\0")
         (folder / f"{longer}.txt").write_text("refused 10\n")
     for name, challenges, table in tables():
-        lines = ["challenges " + " ".join(map(str, challenges)), f"rows {len(table)}", *(" ".join(map(str, r)) for r in table)]
+        lines = [" ".join(map(str, challenges)), str(len(table)), *(" ".join(map(str, r)) for r in table)]
         (folder / "tables" / f"{name}.table").write_text("\n".join(lines) + "\n")
 
 

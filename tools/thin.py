@@ -1,8 +1,9 @@
 """Writes the proof of each thin function, from the repository's root:
 
     python3 tools/thin.py
+    python3 tools/thin.py --check
 
-A thin function takes a record that is lent, `&mut`, slices that are lent, and numbers, and does what a function proved before, its core,
+With --check nothing is written: the stored proofs are compared with what would be. A thin function takes a record that is lent, `&mut`, slices that are lent, and numbers, and does what a function proved before, its core,
 does with the record by value:
 
     pub fn FUNCTION(sizes: &mut SIZES, a: &mut [u64], .., x: u64, ..) -> ANSWER
@@ -400,7 +401,7 @@ def steps(sizes, recording, slices, numbers, count, mine, tokens, lifetimes, sai
 
 def recorded(z, lists, numbers, answer, z_after, lists_after):
     due = f"recordAll (u32List {z} {' '.join(lists)}) (entry {' '.join(numbers)})"
-    return f"IsRecorded ({due}) ({answer}) (u32List {z_after} {' '.join(lists_after)})"
+    return f"Leaves ({due}) (recordedAnswer ({answer})) (u32List {z_after} {' '.join(lists_after)})"
 
 
 FUNCTIONS = [
@@ -408,14 +409,23 @@ FUNCTIONS = [
          home='list', sizes='Sizes', answer='Recorded', recording='Recording', slices=2, numbers=['opcode', 'lhs', 'rhs'],
          uses='use Rattle.isa.specs.Entries.{entry}\n'
               'use Rattle.list.specs.Lists.{u32List}\n'
-              'use Rattle.list_record.specs.Recording.{recordAll, IsRecorded}',
+              'use Rattle.words.specs.Outcomes.{Leaves}\n'
+              'use Rattle.list_record.specs.Recording.{recordAll, recordedAnswer}',
          promise=recorded),
 ]
 
 if __name__ == '__main__':
     root = os.path.dirname(os.path.dirname(os.path.abspath(__file__)))
+    stale = []
     for each in FUNCTIONS:
         folder = os.path.join(root, 'crates', each['crate'], 'proofs', each['function'])
+        path = os.path.join(folder, 'Proof.antt')
+        if sys.argv[1:] == ['--check']:
+            if not os.path.isfile(path) or open(path, encoding='utf-8').read() != thin(**each):
+                stale.append(os.path.relpath(path, root))
+            continue
         os.makedirs(folder, exist_ok=True)
-        with open(os.path.join(folder, 'Proof.antt'), 'w', encoding='utf-8') as file:
+        with open(path, 'w', encoding='utf-8') as file:
             file.write(thin(**each))
+    if stale:
+        sys.exit('not what tools/thin.py writes: ' + ', '.join(stale))

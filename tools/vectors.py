@@ -6,7 +6,10 @@
     tools/vectors.py CALLS.jsonl tables tests/vectors/filled-tables.jsonl > crates/vectors_table/stdin
     tools/vectors.py CALLS.jsonl checks tests/vectors/named-tables.jsonl > crates/vectors_check/stdin
 
-CALLS.jsonl has single calls of document 01 with their answer and every array after the call, one JSON object a line. Further files of the
+CALLS.jsonl has single calls of document 01 with their answer and every array after the call, one JSON object a line. It was made outside this
+repository and is not here: 1,078 lines, 951,719 bytes, with the sha256 sum
+e65f32c3547678d5451e727d1a89fd549fd06f80933a5a21b3a08bb4a43565f0. From that file the four commands make the stored files to the last byte. Of the others,
+crates/vectors_text/stdin is packed by tests/pack-cases from cases that came from outside too, and vectors_digests makes its own input. Further files of the
 same form are read after it: request-NN.jsonl has calls as change request NN has them, and the calls of CALLS.jsonl that a request answers
 otherwise are left out; the others in tests/vectors have the original Rust's answers (tools/filled_tables.py, tools/named_tables.py and
 tools/recorded_lists.py make them). request-09.jsonl has those calls of the request's file that take at most 6,000 characters, and the shortest one of

@@ -1,143 +1,108 @@
 //! The C functions of crates/u32_table and crates/probes, on slices; and record, extend and check of an earlier library, where one is linked.
-mod c {
-    unsafe extern "C" {
-        pub fn u32_table_record(
-            c: usize,
-            u: usize,
-            k: *mut u64,
-            n: usize,
-            m: *mut u64,
-            p: usize,
-            o: u64,
-            l: u64,
-            r: u64,
-            a: *mut u64,
-            w: usize,
-        ) -> u64;
-        pub fn u32_table_read(
-            b: *const u8,
-            l: usize,
-            c: usize,
-            u: usize,
-            k: *mut u64,
-            n: usize,
-            m: *mut u64,
-            p: usize,
-            a: *mut u64,
-            w: usize,
-        ) -> u64;
-        pub fn u32_table_plan(c: usize, u: usize, k: *const u64, n: usize, m: *const u64, p: usize, a: *mut u64, w: usize)
-        -> u64;
-        pub fn u32_table_write(
-            c: usize,
-            u: usize,
-            k: *const u64,
-            n: usize,
-            m: *const u64,
-            p: usize,
-            b: *mut u8,
-            l: usize,
-            a: *mut u64,
-            w: usize,
-        ) -> u64;
-        pub fn u32_table_fill(
-            c: usize,
-            u: usize,
-            k: *const u64,
-            n: usize,
-            m: *const u64,
-            p: usize,
-            t: *mut u64,
-            l: usize,
-            a: *mut u64,
-            w: usize,
-        ) -> u64;
-        pub fn u32_table_pad(t: *mut u64, l: usize, filled: usize) -> u64;
-        pub fn u32_table_extend(
-            t: *const u64,
-            l: usize,
-            x: *mut u64,
-            n: usize,
-            c: *const u64,
-            m: usize,
-            a: *mut u64,
-            w: usize,
-        ) -> u64;
-        pub fn u32_table_check(
-            t: *const u64,
-            l: usize,
-            x: *const u64,
-            n: usize,
-            c: *const u64,
-            m: usize,
-            a: *mut u64,
-            w: usize,
-        ) -> u64;
-        pub fn probe_products(l: *const u64, n: usize, r: *const u64, m: usize, o: *mut u64, k: usize) -> u64;
-        pub fn probe_chain(start: u64, factor: u64, times: u64) -> u64;
-        pub fn probe_inverses(w: *const u64, n: usize, o: *mut u64, m: usize) -> u64;
-        pub fn probe_ext_inverses(w: *const u64, n: usize, o: *mut u64, m: usize) -> u64;
-    }
-}
+use u32_table_sys as c;
+use u32_table_sys::probes;
 
 #[cfg(earlier)]
 mod earlier {
-    unsafe extern "C" {
-        pub fn earlier_u32_table_record(
-            c: usize,
-            u: usize,
-            k: *mut u64,
-            n: usize,
-            m: *mut u64,
-            p: usize,
-            o: u64,
-            l: u64,
-            r: u64,
-            a: *mut u64,
-            w: usize,
-        ) -> u64;
-        pub fn earlier_u32_table_extend(
-            t: *const u64,
-            l: usize,
-            x: *mut u64,
-            n: usize,
-            c: *const u64,
-            m: usize,
-            a: *mut u64,
-            w: usize,
-        ) -> u64;
-        pub fn earlier_u32_table_check(
-            t: *const u64,
-            l: usize,
-            x: *const u64,
-            n: usize,
-            c: *const u64,
-            m: usize,
-            a: *mut u64,
-            w: usize,
-        ) -> u64;
+    macro_rules! declare {
+        ($(fn $name:ident($($argument:ident: $type:ty),* $(,)?);)*) => {
+            #[allow(dead_code)]
+            unsafe extern "C" {
+                $(
+                    #[link_name = concat!("earlier_", stringify!($name))]
+                    pub fn $name($($argument: $type),*) -> u64;
+                )*
+            }
+        };
     }
+    u32_table_sys::functions!(declare);
 }
-
-type Record = unsafe extern "C" fn(usize, usize, *mut u64, usize, *mut u64, usize, u64, u64, u64, *mut u64, usize) -> u64;
-type Extend = unsafe extern "C" fn(*const u64, usize, *mut u64, usize, *const u64, usize, *mut u64, usize) -> u64;
-type Check = unsafe extern "C" fn(*const u64, usize, *const u64, usize, *const u64, usize, *mut u64, usize) -> u64;
 
 /// The calls that are timed in two libraries.
 pub struct Library {
-    record: Record,
-    extend: Extend,
-    check: Check,
+    record: fn(&mut List, usize, [u64; 3]) -> usize,
+    extend: fn(&[u64], &mut [u64], &[u64]),
+    check: fn(&[u64], &[u64], &[u64]) -> bool,
 }
 
-pub const OURS: Library = Library { record: c::u32_table_record, extend: c::u32_table_extend, check: c::u32_table_check };
+impl Library {
+    /// The places used afterwards.
+    pub fn record(&self, list: &mut List, used: usize, key: [u64; 3]) -> usize {
+        (self.record)(list, used, key)
+    }
+
+    pub fn extend(&self, table: &[u64], aux: &mut [u64], challenges: &[u64]) {
+        (self.extend)(table, aux, challenges)
+    }
+
+    /// Whether all constraints are zero.
+    pub fn check(&self, table: &[u64], aux: &[u64], challenges: &[u64]) -> bool {
+        (self.check)(table, aux, challenges)
+    }
+}
+
+/// These calls with the functions of a module.
+macro_rules! library {
+    ($c:ident) => {
+        Library {
+            record: |list, used, key| {
+                let (mut answers, capacity) = ([0; 2], list.capacity());
+                done(unsafe {
+                    $c::u32_table_record(
+                        capacity,
+                        used,
+                        list.keys.as_mut_ptr(),
+                        list.keys.len(),
+                        list.multiplicities.as_mut_ptr(),
+                        capacity,
+                        key[0],
+                        key[1],
+                        key[2],
+                        answers.as_mut_ptr(),
+                        2,
+                    )
+                });
+                answers[1] as usize
+            },
+            extend: |table, aux, challenges| {
+                let mut answers = [0; 3];
+                done(unsafe {
+                    $c::u32_table_extend(
+                        table.as_ptr(),
+                        table.len(),
+                        aux.as_mut_ptr(),
+                        aux.len(),
+                        challenges.as_ptr(),
+                        challenges.len(),
+                        answers.as_mut_ptr(),
+                        3,
+                    )
+                });
+            },
+            check: |table, aux, challenges| {
+                let mut answers = [0; 7];
+                done(unsafe {
+                    $c::u32_table_check(
+                        table.as_ptr(),
+                        table.len(),
+                        aux.as_ptr(),
+                        aux.len(),
+                        challenges.as_ptr(),
+                        challenges.len(),
+                        answers.as_mut_ptr(),
+                        7,
+                    )
+                });
+                answers[0] == 0
+            },
+        }
+    };
+}
+
+pub const OURS: Library = library!(c);
 
 #[cfg(earlier)]
-pub const EARLIER: Option<Library> = Some(Library {
-    record: earlier::earlier_u32_table_record,
-    extend: earlier::earlier_u32_table_extend,
-    check: earlier::earlier_u32_table_check,
-});
+pub const EARLIER: Option<Library> = Some(library!(earlier));
 #[cfg(not(earlier))]
 pub const EARLIER: Option<Library> = None;
 
@@ -155,62 +120,6 @@ impl List {
 
 fn done(number: u64) {
     assert_eq!(0, number, "refused");
-}
-
-impl Library {
-    pub fn record(&self, list: &mut List, used: usize, key: [u64; 3]) -> usize {
-        let (mut answers, capacity) = ([0; 2], list.capacity());
-        done(unsafe {
-            (self.record)(
-                capacity,
-                used,
-                list.keys.as_mut_ptr(),
-                list.keys.len(),
-                list.multiplicities.as_mut_ptr(),
-                capacity,
-                key[0],
-                key[1],
-                key[2],
-                answers.as_mut_ptr(),
-                2,
-            )
-        });
-        answers[1] as usize
-    }
-
-    pub fn extend(&self, table: &[u64], aux: &mut [u64], challenges: &[u64]) {
-        let mut answers = [0; 3];
-        done(unsafe {
-            (self.extend)(
-                table.as_ptr(),
-                table.len(),
-                aux.as_mut_ptr(),
-                aux.len(),
-                challenges.as_ptr(),
-                challenges.len(),
-                answers.as_mut_ptr(),
-                3,
-            )
-        });
-    }
-
-    /// Whether all constraints are zero.
-    pub fn check(&self, table: &[u64], aux: &[u64], challenges: &[u64]) -> bool {
-        let mut answers = [0; 7];
-        done(unsafe {
-            (self.check)(
-                table.as_ptr(),
-                table.len(),
-                aux.as_ptr(),
-                aux.len(),
-                challenges.as_ptr(),
-                challenges.len(),
-                answers.as_mut_ptr(),
-                7,
-            )
-        });
-        answers[0] == 0
-    }
 }
 
 /// Height and padded height.
@@ -285,17 +194,17 @@ pub fn pad(table: &mut [u64], filled: usize) {
 }
 
 pub fn products(left: &[u64], right: &[u64], out: &mut [u64]) {
-    done(unsafe { c::probe_products(left.as_ptr(), left.len(), right.as_ptr(), right.len(), out.as_mut_ptr(), out.len()) });
+    done(unsafe { probes::probe_products(left.as_ptr(), left.len(), right.as_ptr(), right.len(), out.as_mut_ptr(), out.len()) });
 }
 
 pub fn chain(start: u64, factor: u64, times: u64) -> u64 {
-    unsafe { c::probe_chain(start, factor, times) }
+    unsafe { probes::probe_chain(start, factor, times) }
 }
 
 pub fn inverses(words: &[u64], out: &mut [u64]) {
-    done(unsafe { c::probe_inverses(words.as_ptr(), words.len(), out.as_mut_ptr(), out.len()) });
+    done(unsafe { probes::probe_inverses(words.as_ptr(), words.len(), out.as_mut_ptr(), out.len()) });
 }
 
 pub fn ext_inverses(words: &[u64], out: &mut [u64]) {
-    done(unsafe { c::probe_ext_inverses(words.as_ptr(), words.len(), out.as_mut_ptr(), out.len()) });
+    done(unsafe { probes::probe_ext_inverses(words.as_ptr(), words.len(), out.as_mut_ptr(), out.len()) });
 }

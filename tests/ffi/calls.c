@@ -259,9 +259,37 @@ static void tables(void) {
     printf("lt 2, 3 with Result 0: nonzero, group %" PRIu64 " row %" PRIu64 " index %" PRIu64 "\n", answers[1], answers[2], answers[3]);
 }
 
+/* a pointer to no elements may be NULL */
+static void no_arrays(void) {
+    DONE(u32_table_plan(0, 0, NULL, 0, NULL, 0, answers, WORDS), 2, 0, 256);
+    REFUSED(u32_table_record(0, 0, NULL, 0, NULL, 0, U32_TABLE_AND, 3, 1, answers, WORDS), U32_TABLE_LIST_FULL);
+    REFUSED(u32_table_read(NULL, 0, 0, 0, NULL, 0, NULL, 0, answers, WORDS), U32_TABLE_TORN);
+    REFUSED(u32_table_write(0, 0, NULL, 0, NULL, 0, NULL, 0, answers, WORDS), U32_TABLE_SHORT);
+    DONE(u32_table_write(0, 0, NULL, 0, NULL, 0, bytes, sizeof bytes, answers, WORDS), 1, 8);
+    DONE(u32_table_read(bytes, 8, 0, 0, NULL, 0, NULL, 0, answers, WORDS), 1, 0);
+    DONE(u32_table_fill(0, 0, NULL, 0, NULL, 0, NULL, 0, answers, WORDS), 1, 0);
+    expect("pad of no rows", u32_table_pad(NULL, 0, 0), 0);
+    REFUSED(u32_table_pad(NULL, 0, 1), U32_TABLE_SHORT);
+    DONE(u32_table_extend(NULL, 0, NULL, 0, challenges, 15, answers, WORDS), 3, 0, 0, 0);
+    REFUSED(u32_table_extend(NULL, 0, NULL, 0, NULL, 0, answers, WORDS), U32_TABLE_SHAPE);
+    REFUSED(u32_table_check(NULL, 0, NULL, 0, challenges, 15, answers, WORDS), U32_TABLE_SHORT);
+    REFUSED(u32_table_check(NULL, 0, NULL, 0, NULL, 0, answers, WORDS), U32_TABLE_SHAPE);
+    /* and so for `answers`, which is too short then */
+    REFUSED(u32_table_record(0, 0, NULL, 0, NULL, 0, 4, 0, 0, NULL, 0), U32_TABLE_SHAPE);
+    REFUSED(u32_table_compare(4, 0, 0, 4, 0, 0, NULL, 0), U32_TABLE_SHAPE);
+    REFUSED(u32_table_plan(0, 0, NULL, 0, NULL, 0, NULL, 0), U32_TABLE_SHAPE);
+    REFUSED(u32_table_read(NULL, 0, 0, 0, NULL, 0, NULL, 0, NULL, 0), U32_TABLE_SHAPE);
+    REFUSED(u32_table_write(0, 0, NULL, 0, NULL, 0, NULL, 0, NULL, 0), U32_TABLE_SHAPE);
+    REFUSED(u32_table_fill(0, 0, NULL, 0, NULL, 0, NULL, 0, NULL, 0), U32_TABLE_SHAPE);
+    REFUSED(u32_table_extend(NULL, 0, NULL, 0, NULL, 0, NULL, 0), U32_TABLE_SHAPE);
+    REFUSED(u32_table_check(NULL, 0, NULL, 0, NULL, 0, NULL, 0), U32_TABLE_SHAPE);
+}
+
 int main(void) {
+    expect("the number of the signatures", u32_table_abi_1(), 1);
     lists();
     tables();
+    no_arrays();
     printf("%u comparisons, %u failed\n", tried, failed);
     return failed != 0;
 }

@@ -8,20 +8,19 @@ use std::error::Error;
 use std::path::PathBuf;
 use std::{env, fs, process};
 
-use u32_table::opcodes::{AND, LOG_2_FLOOR, LT, POP_COUNT, POW, SPLIT};
-use u32_table::{check, column, extend, pad, Entry, List, Plan, Refusal, AUX_COLUMNS, CHALLENGE_WORDS, COLUMNS, MAX_PLACES};
+use u32_table::{column, Entry, List, Opcode, Refusal, Table, CHALLENGE_WORDS, COLUMNS, MAX_PLACES};
 
 /// The instructions of a run: samples are compared with a threshold, and their bits are counted and masked.
 fn run() -> impl Iterator<Item = Entry> {
     let samples = (0..400u64).map(|i| (i * 7919) % 1024);
     samples.flat_map(|sample| {
         [
-            Entry::new(LT, sample, 512),
-            Entry::new(POP_COUNT, sample, 0),
-            Entry::new(AND, sample, 255),
-            Entry::new(LOG_2_FLOOR, sample, 0),
-            Entry::new(POW, 7, sample % 16),
-            Entry::new(SPLIT, sample, sample / 2),
+            Opcode::Lt.entry(sample, 512),
+            Opcode::PopCount.entry(sample, 0),
+            Opcode::And.entry(sample, 255),
+            Opcode::Log2Floor.entry(sample, 0),
+            Opcode::Pow.entry(7, sample % 16),
+            Opcode::Split.entry(sample, sample / 2),
         ]
     })
 }
@@ -58,22 +57,23 @@ fn main() -> Result<(), Box<dyn Error>> {
     println!("stored and read back {} bytes", stored.len());
 
     // fill, pad, extend, check
-    let Plan { height, padded_height } = list.plan()?;
-    let (mut table, mut aux) = (vec![0; padded_height * COLUMNS], vec![0; padded_height * AUX_COLUMNS]);
     let challenges = challenges();
-    let filled = list.fill(&mut table)?;
-    pad(&mut table, filled)?;
-    let [a, b, c] = extend(&table, &mut aux, &challenges)?;
-    println!("rows {height} padded {padded_height}");
+    let mut table = Table::new();
+    let height = table.fill(&list)?;
+    table.pad()?;
+    let [a, b, c] = table.extend(&challenges)?;
+    println!("rows {height} padded {}", table.rows());
     println!("sum {a} {b} {c}");
-    println!("{}", check(&table, &aux, &challenges)?);
+    println!("{}", table.check(&challenges)?);
 
     // one false comparison, with sums to match
-    let row =
-        table.chunks(COLUMNS).position(|row| row[column::COPY_FLAG] == 1 && row[column::CI] == LT).ok_or("no comparison")?;
-    let result = &mut table[row * COLUMNS + column::RESULT];
+    let is_comparison = |row: &[u64]| row[column::COPY_FLAG] == 1 && row[column::CI] == Opcode::Lt.word();
+    let row = table.words().chunks(COLUMNS).position(is_comparison).ok_or("no comparison")?;
+    let result = &mut table.words_mut()[row * COLUMNS + column::RESULT];
     *result = 1 - *result;
-    extend(&table, &mut aux, &challenges)?;
-    println!("with the comparison in row {row} forged: {}", check(&table, &aux, &challenges)?);
+    table.extend(&challenges)?;
+    let verdict = table.check(&challenges)?;
+    println!("with the comparison in row {row} forged: {verdict}");
+    println!("which is {}", verdict.constraint().unwrap_or("nothing"));
     Ok(())
 }

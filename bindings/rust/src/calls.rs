@@ -3,14 +3,14 @@ use std::cmp::Ordering;
 use std::fmt;
 
 use crate::refusal::done;
-use crate::{sys, Refusal};
+use crate::{constraints, sys, Opcode, Refusal, KEY_WORDS};
 
 /// An executed instruction with its operands. Any words may stand in it: recording admits it or refuses it.
 ///
 /// Entries are ordered by opcode, then left operand, then right operand.
 #[derive(Clone, Copy, Debug, PartialEq, Eq, Hash)]
 pub struct Entry {
-    /// One of [`opcodes`](crate::opcodes), for an entry that is admitted.
+    /// The word of an [`Opcode`], for an entry that is admitted.
     pub opcode: u64,
     /// Below 2^32; for pow below [`P`](crate::P); for log_2_floor not 0.
     pub left_operand: u64,
@@ -19,9 +19,14 @@ pub struct Entry {
 }
 
 impl Entry {
-    /// The entry with these words.
-    pub fn new(opcode: u64, left_operand: u64, right_operand: u64) -> Entry {
+    /// The entry with these words. [`Opcode::entry`] makes one of an instruction.
+    pub const fn new(opcode: u64, left_operand: u64, right_operand: u64) -> Entry {
         Entry { opcode, left_operand, right_operand }
+    }
+
+    /// The instruction, if the opcode is one of the six.
+    pub fn instruction(self) -> Option<Opcode> {
+        Opcode::try_from(self.opcode).ok()
     }
 
     fn words(self) -> [u64; 3] {
@@ -84,6 +89,17 @@ impl Group {
     pub fn number(self) -> u64 {
         self as u64
     }
+
+    /// The names of its constraints, those of the original Rust, in the order of their indices. Four of the transition constraints are other than
+    /// their names say: docs/DIFFERENCES.md, "Names that mislead".
+    pub fn constraints(self) -> &'static [&'static str] {
+        match self {
+            Group::Initial => &constraints::INITIAL,
+            Group::Consistency => &constraints::CONSISTENCY,
+            Group::Transition => &constraints::TRANSITION,
+            Group::Terminal => &constraints::TERMINAL,
+        }
+    }
 }
 
 impl fmt::Display for Group {
@@ -121,6 +137,21 @@ impl Verdict {
     pub fn is_zero(self) -> bool {
         self == Verdict::Zero
     }
+
+    /// The name of the constraint that is not zero; none where every one is zero.
+    ///
+    /// ```
+    /// use u32_table::{check, Opcode};
+    /// let flag_of_2 = [2, 0, 15651782846776010939, Opcode::And.word(), 0, 0, 0, 0, 0, 0];
+    /// let verdict = check(&flag_of_2, &[0; 3], &[0; 15]).unwrap();
+    /// assert_eq!(verdict.constraint(), Some("copy_flag_is_bit"));
+    /// ```
+    pub fn constraint(self) -> Option<&'static str> {
+        match self {
+            Verdict::Zero => None,
+            Verdict::Nonzero { group, index, .. } => group.constraints().get(index).copied(),
+        }
+    }
 }
 
 /// As `u32list` prints it: `zero`, or `nonzero` with group, row, index and the three words of the value.
@@ -145,8 +176,8 @@ impl fmt::Display for Verdict {
 /// ```
 pub fn compare(entry: Entry, other: Entry) -> Ordering {
     let mut answers = [0];
-    let number = sys::compare(entry.words(), other.words(), &mut answers);
-    debug_assert_eq!(number, 0, "compare refuses only too few answers");
+    // it refuses only too few words of `answers`
+    sys::compare(entry.words(), other.words(), &mut answers);
     match answers[0] {
         0 => Ordering::Less,
         1 => Ordering::Equal,
@@ -188,6 +219,26 @@ pub fn plan(sizes: Sizes, keys: &[u64], multiplicities: &[u64]) -> Result<Plan, 
     Ok(Plan { height: answers[0] as usize, padded_height: answers[1] as usize })
 }
 
+/// The first entry that [`plan`], [`fill`] and [`write()`] decline, and why: the calls themselves answer the reason alone. None, where they
+/// decline no entry; a list of the wrong shape has none. Which entry of stored bytes [`read`] declines is not told.
+///
+/// ```
+/// use u32_table::{opcodes::AND, plan, refused_entry, Refusal, Sizes};
+/// let (sizes, keys) = (Sizes { capacity: 2, used: 2 }, [AND, 3, 1, 5, 0, 0]);
+/// assert_eq!(plan(sizes, &keys, &[1, 1]), Err(Refusal::Stranger));
+/// assert_eq!(refused_entry(sizes, &keys, &[1, 1]), Some((1, Refusal::Stranger)));
+/// ```
+pub fn refused_entry(sizes: Sizes, keys: &[u64], multiplicities: &[u64]) -> Option<(usize, Refusal)> {
+    // each entry by itself, as a list of one
+    let one = Sizes { capacity: 1, used: 1 };
+    let refused = |(i, (key, multiplicity))| plan(one, key, multiplicity).err().map(|reason| (i, reason));
+    let entries = keys.chunks_exact(KEY_WORDS).zip(multiplicities.chunks_exact(1)).take(sizes.used);
+    match plan(sizes, keys, multiplicities) {
+        Ok(_) | Err(Refusal::Shape) => None,
+        Err(_) => entries.enumerate().find_map(refused),
+    }
+}
+
 /// Reads a stored list of N entries: they replace the first N places, `sizes.used` becomes N, and the answer is N. Later places keep their
 /// words.
 ///
@@ -222,7 +273,11 @@ pub fn plan(sizes: Sizes, keys: &[u64], multiplicities: &[u64]) -> Result<Plan, 
 /// assert_eq!(multiplicities, [2]);
 /// ```
 ///
+/// A call takes 118,000 bytes of stack.
+///
 /// Refusals, in this order: shape; torn; list full; then entry by entry stranger, wide, bare log, count full; repeat; tally.
+///
+/// It takes up to 120 KB of stack: see [the crate's page](crate#stack).
 pub fn read(bytes: &[u8], sizes: &mut Sizes, keys: &mut [u64], multiplicities: &mut [u64]) -> Result<usize, Refusal> {
     let mut answers = [0];
     done(sys::read(bytes, sizes.numbers(), keys, multiplicities, &mut answers))?;
@@ -234,6 +289,8 @@ pub fn read(bytes: &[u8], sizes: &mut Sizes, keys: &mut [u64], multiplicities: &
 /// bytes keep their values.
 ///
 /// Refusals, in this order: shape; then entry by entry stranger, wide, bare log, count full; repeat; short.
+///
+/// It takes up to 52 KB of stack: see [the crate's page](crate#stack).
 pub fn write(sizes: Sizes, keys: &[u64], multiplicities: &[u64], out: &mut [u8]) -> Result<usize, Refusal> {
     let mut answers = [0];
     done(sys::write(sizes.numbers(), keys, multiplicities, out, &mut answers))?;

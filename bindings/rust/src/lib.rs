@@ -1,55 +1,73 @@
 //! The U32 table of Triton VM, proved: a safe interface to the static library that `rt staticlib u32_table` makes of the proved crates.
 //!
 //! The table holds every comparison, bitwise and, logarithm, power and bit count that a program made on 32-bit numbers, in rows that forty
-//! polynomials tie together. A [`List`] records them and can be stored; [`fill`], [`pad`] and [`extend`] make the table; [`check`] finds the
-//! first polynomial that is not zero, or says that all are. When all are, each row that stands for an instruction tells the truth, whoever
+//! polynomials tie together. A [`List`] records them and can be stored; a [`Table`] is filled from it, padded, extended and checked: the check finds
+//! the first polynomial that is not zero, or says that all are. When all are, each row that stands for an instruction tells the truth, whoever
 //! made the table.
 //!
 //! Every call takes any input at all: it does the work, or it answers a [`Refusal`] and has changed nothing. The functions behind are
-//! proved to do so, to stay within what they are lent, and to end; this crate adds no logic of its own.
+//! proved to do so, to stay within what they are lent, and to end. This crate adds arrays that are large enough, types and names; no call of it
+//! panics.
 //!
 //! ```
 //! # fn main() -> Result<(), u32_table::Refusal> {
-//! use u32_table::{check, extend, opcodes::AND, pad, Entry, List, Verdict, AUX_COLUMNS, CHALLENGE_WORDS, COLUMNS};
+//! use u32_table::{List, Opcode, Table, Verdict, CHALLENGE_WORDS, MAX_PLACES};
 //!
-//! let mut list = List::new(2048)?;
-//! list.record(Entry::new(AND, 3, 1))?;
-//! list.record(Entry::new(AND, 3, 1))?;
-//!
-//! let plan = list.plan()?;
-//! assert_eq!((plan.height, plan.padded_height), (3, 256));
-//! let mut table = vec![0; plan.padded_height * COLUMNS];
-//! let mut aux = vec![0; plan.padded_height * AUX_COLUMNS];
+//! let mut list = List::new(MAX_PLACES)?;
+//! list.record(Opcode::And.entry(3, 1))?;
+//! list.record(Opcode::And.entry(3, 1))?;
 //!
 //! // Indeterminate (1, 0, 0), weights zero
 //! let mut challenges = [0; CHALLENGE_WORDS];
 //! challenges[0] = 1;
 //!
-//! let height = list.fill(&mut table)?;
-//! pad(&mut table, height)?;
-//! assert_eq!(extend(&table, &mut aux, &challenges)?, [2, 0, 0]);
-//! assert_eq!(check(&table, &aux, &challenges)?, Verdict::Zero);
+//! let mut table = Table::new();
+//! assert_eq!(table.fill(&list)?, 3);
+//! table.pad()?;
+//! assert_eq!(table.extend(&challenges)?, [2, 0, 0]);
+//! assert_eq!(table.check(&challenges)?, Verdict::Zero);
 //! # Ok(())
 //! # }
 //! ```
 //!
+//! The nine calls stand here too as functions over slices, for arrays that a program has already.
+//!
+//! # Words and elements
+//!
+//! A word stands for the base element of that value: a word of a table, of the sums or of the challenges is below [`P`], the canonical value
+//! and not its Montgomery form. With twenty-first's elements, `BFieldElement::new(word)` is the element of a word, and `element.value()` the word
+//! of an element; `raw_u64`, `from_raw_u64` and the memory of a `BFieldElement` are something else. Three words a, b, c stand for
+//! a + b X + c X² with X³ = X − 1, as do the coefficients of an `XFieldElement` in their order. A row's words are in the order of [`mod@column`], and
+//! the challenges in that of [`CHALLENGE_WORDS`].
+//!
+//! # Stack
+//!
+//! [`read`] takes up to 120 KB of stack, [`write()`] 52 KB, [`fill`] 12 KB and every other call 2 KB (a KB is 1,000 bytes), and the methods of
+//! [`List`] and [`Table`] little more than the calls that they make. A thread of 160 KiB is enough for each (measured: one of 120 KiB is, one of
+//! 116 KiB is not). Where the stack is too small the program ends, as in all Rust.
+//!
 //! # Linking
 //!
-//! The build script looks for `libu32_table.a` in the folder that the variable `U32_TABLE_LIB` names, and else in `target/staticlib` of the
-//! repository. The library is for x86-64 Linux.
+//! The build script of `u32-table-sys` looks for `libu32_table.a` in the folder that the variable `U32_TABLE_LIB` names (a whole path), and else in
+//! `target/staticlib` of the repository. The library is for x86-64 Linux. A library of other signatures than this crate's does not link.
 #![deny(missing_docs)]
 #![deny(unsafe_code)]
 #![warn(rust_2018_idioms)]
 
 mod calls;
+mod constraints;
 mod list;
+mod opcode;
 mod refusal;
 mod sys;
+mod table;
 
-pub use calls::{check, compare, extend, fill, pad, plan, read, record, write};
+pub use calls::{check, compare, extend, fill, pad, plan, read, record, refused_entry, write};
 pub use calls::{Entry, Group, Plan, Sizes, Verdict};
 pub use list::List;
+pub use opcode::Opcode;
 pub use refusal::Refusal;
+pub use table::Table;
 
 /// The number of elements of the base field, 2^64 − 2^32 + 1. A word that stands for an element is below it.
 pub const P: u64 = 18446744069414584321;
@@ -72,29 +90,33 @@ pub const AUX_COLUMNS: usize = 3;
 /// Challenge words: Indeterminate, LhsWeight, RhsWeight, CiWeight and ResultWeight, three words each.
 pub const CHALLENGE_WORDS: usize = 15;
 
-/// The bytes that a stored list of so many entries takes. Lists of the old length, with 21 bytes an entry, are still read; see [`read`].
+/// The bytes that a stored list of so many entries takes; `usize::MAX` where a `usize` does not hold the number. Lists of the old length, with 21
+/// bytes an entry, are still read; see [`read`].
 ///
 /// ```
 /// assert_eq!(u32_table::stored_bytes(2048), 51208);
+/// assert_eq!(u32_table::stored_bytes(usize::MAX), usize::MAX);
 /// ```
 pub const fn stored_bytes(entries: usize) -> usize {
-    8 + 25 * entries
+    entries.saturating_mul(25).saturating_add(8)
 }
 
-/// The six opcodes.
+/// The words of the six opcodes; [`Opcode`] is their type.
 pub mod opcodes {
+    use crate::Opcode;
+
     /// A word taken apart into two halves.
-    pub const SPLIT: u64 = 4;
+    pub const SPLIT: u64 = Opcode::Split.word();
     /// Whether the left operand is less than the right one.
-    pub const LT: u64 = 6;
+    pub const LT: u64 = Opcode::Lt.word();
     /// The logarithm to base 2 of the left operand, rounded down.
-    pub const LOG_2_FLOOR: u64 = 12;
+    pub const LOG_2_FLOOR: u64 = Opcode::Log2Floor.word();
     /// Bitwise and.
-    pub const AND: u64 = 14;
+    pub const AND: u64 = Opcode::And.word();
     /// The one-bits of the left operand.
-    pub const POP_COUNT: u64 = 28;
+    pub const POP_COUNT: u64 = Opcode::PopCount.word();
     /// The left operand to the power of the right one, modulo [`P`](crate::P).
-    pub const POW: u64 = 30;
+    pub const POW: u64 = Opcode::Pow.word();
     /// All six.
     pub const ALL: [u64; 6] = [SPLIT, LT, LOG_2_FLOOR, AND, POP_COUNT, POW];
 }

@@ -17,7 +17,8 @@ use crate::{calls, stored_bytes, Entry, Plan, Refusal, Sizes, KEY_WORDS};
 /// # }
 /// ```
 ///
-/// Two lists are equal if their capacities and entries are: what unused places hold does not count.
+/// Two lists are equal if their entries are, with their multiplicities and in their order. How many places there are, and what unused ones hold,
+/// does not count.
 #[derive(Clone, Debug)]
 pub struct List {
     sizes: Sizes,
@@ -34,7 +35,7 @@ impl List {
         Ok(List { sizes: Sizes { capacity, used: 0 }, keys: vec![0; KEY_WORDS * capacity], multiplicities: vec![0; capacity] })
     }
 
-    /// A list as it was stored, with so many places; see [`read`](crate::read).
+    /// A list as it was stored, with so many places; see [`read`](crate::read), also for the stack that it takes.
     pub fn from_bytes(bytes: &[u8], capacity: usize) -> Result<List, Refusal> {
         let mut list = List::new(capacity)?;
         list.read(bytes)?;
@@ -65,7 +66,7 @@ impl List {
     pub fn to_bytes(&self) -> Result<Vec<u8>, Refusal> {
         let mut bytes = vec![0; stored_bytes(self.sizes.used)];
         let length = self.write(&mut bytes)?;
-        debug_assert_eq!(length, bytes.len());
+        bytes.truncate(length);
         Ok(bytes)
     }
 
@@ -76,11 +77,8 @@ impl List {
 
     /// The entries with their multiplicities, in list order.
     pub fn entries(&self) -> impl ExactSizeIterator<Item = (Entry, u64)> + '_ {
-        let used = self.sizes.used;
-        self.keys[..KEY_WORDS * used]
-            .chunks_exact(KEY_WORDS)
-            .zip(&self.multiplicities[..used])
-            .map(|(key, &multiplicity)| (Entry::new(key[0], key[1], key[2]), multiplicity))
+        let places = self.keys.chunks_exact(KEY_WORDS).zip(&self.multiplicities);
+        places.take(self.sizes.used).map(|(key, &multiplicity)| (Entry::new(key[0], key[1], key[2]), multiplicity))
     }
 
     /// The number of entries.
@@ -116,7 +114,7 @@ impl List {
 
 impl PartialEq for List {
     fn eq(&self, other: &List) -> bool {
-        self.sizes == other.sizes && self.entries().eq(other.entries())
+        self.entries().eq(other.entries())
     }
 }
 

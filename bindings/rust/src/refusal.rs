@@ -1,92 +1,90 @@
 use std::error::Error;
 use std::fmt;
 
-/// A reason to decline. A call that declines has changed nothing.
-#[derive(Clone, Copy, Debug, PartialEq, Eq, PartialOrd, Ord, Hash)]
-#[non_exhaustive]
-pub enum Refusal {
+/// Makes [`Refusal`] and what is said of each reason: a line a reason, with its number and its word.
+macro_rules! refusals {
+    ($($(#[$said:meta])* $number:literal $name:ident $word:literal,)*) => {
+        /// A reason to decline. A call that declines has changed nothing.
+        #[derive(Clone, Copy, Debug, PartialEq, Eq, PartialOrd, Ord, Hash)]
+        #[non_exhaustive]
+        pub enum Refusal {
+            $($(#[$said])* $name,)*
+            /// A number that has no name here. No function of this crate's library answers one; it is kept for those of later libraries.
+            Other(u64),
+        }
+
+        impl Refusal {
+            /// The reasons that have a name, in the order of their numbers.
+            pub fn all() -> impl ExactSizeIterator<Item = Refusal> {
+                [$(Refusal::$name),*].into_iter()
+            }
+
+            /// The reason's number.
+            ///
+            /// ```
+            /// assert_eq!(u32_table::Refusal::Torn.number(), 10);
+            /// ```
+            pub fn number(self) -> u64 {
+                match self {
+                    $(Refusal::$name => $number,)*
+                    Refusal::Other(number) => number,
+                }
+            }
+
+            /// The reason with a number; none for 0, which is no refusal. A number without a name is kept.
+            ///
+            /// ```
+            /// use u32_table::Refusal;
+            /// assert_eq!(Refusal::from_number(10), Some(Refusal::Torn));
+            /// assert_eq!(Refusal::from_number(17), Some(Refusal::Other(17)));
+            /// assert_eq!(Refusal::from_number(0), None);
+            /// ```
+            pub fn from_number(number: u64) -> Option<Refusal> {
+                match number {
+                    0 => None,
+                    $($number => Some(Refusal::$name),)*
+                    _ => Some(Refusal::Other(number)),
+                }
+            }
+
+            /// The reason's word.
+            pub fn word(self) -> &'static str {
+                match self {
+                    $(Refusal::$name => $word,)*
+                    Refusal::Other(_) => "without a name",
+                }
+            }
+        }
+    };
+}
+
+refusals! {
     /// An array has the wrong length, or the sizes are out of range: keys are three words a place, multiplicities one a place, used
     /// is at most the capacity and that at most [`MAX_PLACES`](crate::MAX_PLACES); a table is whole rows, at most
     /// [`MAX_ROWS`](crate::MAX_ROWS); aux is three words a row; challenges are fifteen words.
-    Shape,
+    1 Shape "shape",
     /// An opcode that is none of the six.
-    Stranger,
+    2 Stranger "stranger",
     /// An operand outside its range.
-    Wide,
+    3 Wide "wide",
     /// log_2_floor of 0.
-    BareLog,
+    4 BareLog "bare log",
     /// A multiplicity above [`P`](crate::P) − 1; in recording, the first equal key's, if one more would pass that.
-    CountFull,
+    5 CountFull "count full",
     /// A new key and no unused place; in reading, more entries than places.
-    ListFull,
+    6 ListFull "list full",
     /// A table below the height, a filled count above the rows, a check of no rows, or too few output bytes.
-    Short,
+    7 Short "short",
     /// A word that is [`P`](crate::P) or more.
-    Unreduced,
+    8 Unreduced "unreduced",
     /// A row with CopyFlag 1 whose denominator is (0, 0, 0): U32Indeterminate equals its compressed row. See [`extend`](crate::extend).
-    Flat,
+    9 Flat "flat",
     /// Stored bytes of neither of the two lengths, or more than [`MAX_PLACES`](crate::MAX_PLACES) entries in them; see [`read`](crate::read).
-    Torn,
+    10 Torn "torn",
     /// Equal keys in stored bytes, or in a list to be written.
-    Repeat,
+    11 Repeat "repeat",
     /// The stored height is not the sum of the entries' heights.
-    Tally,
-}
-
-impl Refusal {
-    /// All reasons, in the order of their numbers.
-    pub const ALL: [Refusal; 12] = [
-        Refusal::Shape,
-        Refusal::Stranger,
-        Refusal::Wide,
-        Refusal::BareLog,
-        Refusal::CountFull,
-        Refusal::ListFull,
-        Refusal::Short,
-        Refusal::Unreduced,
-        Refusal::Flat,
-        Refusal::Torn,
-        Refusal::Repeat,
-        Refusal::Tally,
-    ];
-
-    /// The reason's number, from 1 to 12.
-    ///
-    /// ```
-    /// assert_eq!(u32_table::Refusal::Torn.number(), 10);
-    /// ```
-    pub fn number(self) -> u64 {
-        self as u64 + 1
-    }
-
-    /// The reason with a number, if there is one.
-    ///
-    /// ```
-    /// use u32_table::Refusal;
-    /// assert_eq!(Refusal::from_number(10), Some(Refusal::Torn));
-    /// assert_eq!(Refusal::from_number(0), None);
-    /// ```
-    pub fn from_number(number: u64) -> Option<Refusal> {
-        Refusal::ALL.into_iter().find(|r| r.number() == number)
-    }
-
-    /// The reason's word.
-    pub fn word(self) -> &'static str {
-        match self {
-            Refusal::Shape => "shape",
-            Refusal::Stranger => "stranger",
-            Refusal::Wide => "wide",
-            Refusal::BareLog => "bare log",
-            Refusal::CountFull => "count full",
-            Refusal::ListFull => "list full",
-            Refusal::Short => "short",
-            Refusal::Unreduced => "unreduced",
-            Refusal::Flat => "flat",
-            Refusal::Torn => "torn",
-            Refusal::Repeat => "repeat",
-            Refusal::Tally => "tally",
-        }
-    }
+    12 Tally "tally",
 }
 
 /// As in `refused 10 (torn)`.
@@ -100,8 +98,12 @@ impl Error for Refusal {}
 
 /// What a C function returned: 0 for done, else a reason's number.
 pub(crate) fn done(number: u64) -> Result<(), Refusal> {
-    match number {
-        0 => Ok(()),
-        _ => Err(Refusal::from_number(number).expect("the functions are proved to return 0 to 12")),
-    }
+    Refusal::from_number(number).map_or(Ok(()), Err)
+}
+
+#[test]
+fn a_number_without_a_name_is_kept() {
+    assert_eq!(done(17), Err(Refusal::Other(17)));
+    assert_eq!(Refusal::Other(17).number(), 17);
+    assert_eq!(Refusal::Other(17).to_string(), "refused 17 (without a name)");
 }

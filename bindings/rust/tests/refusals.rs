@@ -5,7 +5,8 @@ use common::{list_of, tables_of, Random};
 use std::collections::BTreeSet;
 use u32_table::opcodes::{AND, LOG_2_FLOOR, LT, POW, SPLIT};
 use u32_table::{
-    check, extend, fill, pad, plan, read, record, write, Entry, List, Refusal, Sizes, Verdict, COLUMNS, MAX_ROWS, P,
+    check, extend, fill, pad, plan, read, record, refused_entry, write, Entry, List, Refusal, Sizes, Verdict, COLUMNS, MAX_ROWS,
+    P,
 };
 use Refusal::*;
 
@@ -14,12 +15,19 @@ const MOST_COUNT: u64 = P - 1;
 
 #[test]
 fn numbers_and_words() {
-    for (i, reason) in Refusal::ALL.into_iter().enumerate() {
+    for (i, reason) in Refusal::all().enumerate() {
         assert_eq!(reason.number(), i as u64 + 1);
         assert_eq!(Refusal::from_number(reason.number()), Some(reason));
         assert_eq!(reason.to_string(), format!("refused {} ({})", i + 1, reason.word()));
     }
-    assert_eq!(Refusal::from_number(13), None);
+    assert_eq!(Refusal::all().len(), 12);
+    // a number without a name is kept
+    for number in [13, 17, u64::MAX] {
+        let other = Refusal::from_number(number).unwrap();
+        assert_eq!((other, other.number()), (Other(number), number));
+        assert_eq!(other.to_string(), format!("refused {number} (without a name)"));
+    }
+    assert_eq!(Refusal::from_number(0), None);
     let error: Box<dyn std::error::Error> = Box::new(Tally);
     assert_eq!(error.to_string(), "refused 12 (tally)");
 }
@@ -113,6 +121,8 @@ fn plan_fill_and_write_refuse() {
         assert_eq!(list.plan(), Err(reason));
         assert_eq!(list.fill(&mut table), Err(reason));
         assert_eq!(list.write(&mut out), Err(reason));
+        let entry = refused_entry(list.sizes, &list.keys, &list.multiplicities);
+        assert_eq!(entry, if reason == Shape { None } else { Some((1, reason)) });
         assert!(table.iter().all(|w| *w == 3) && out.iter().all(|b| *b == 5));
     }
     // a multiplicity of 0 and repeated keys are filled; only writing refuses the repeat, before the room

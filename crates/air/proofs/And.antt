@@ -9,7 +9,7 @@ use Rattle.field.proofs.Laws.{subF-lt, mulF-lt, subF-zero-eq, mulF-small, bit-l
 use Rattle.isa.specs.Opcodes.{opAnd}
 use Rattle.isa.specs.PlainFunctions.{plainAnd}
 use Rattle.isa.proofs.PlainLaws.{and-zero-left, and-left, and-step-bits}
-use Rattle.air.specs.Columns.{Row}
+use Rattle.table.specs.Columns.{Row}
 use Rattle.air.specs.Constraints.{instructionDeselector, lhsLsb, rhsLsb}
 use Rattle.air.specs.Constraints as Poly
 use Rattle.air.proofs.Lists.{TransitionZero}

@@ -10,11 +10,11 @@ use Rattle.words.specs.Answers.{Answer, done, declined}
 use Rattle.words.proofs.Answers.{declined-not-done}
 use Rattle.words.specs.declared.Judgement.{Judgement}
 use Rattle.words.specs.declared.Judgement.the-variants.{Fine, Declined}
-use Rattle.air.specs.Columns.{rowAt, rowCount}
-use Rattle.air.specs.RunningSum.{lookupSum}
-use Rattle.air.specs.Check.{AllZero, initialAt, consistencyAt, transitionAt, terminalAt, ConstraintsHold, judgeCheck, firstNonzero, checkedAs, checkAll}
+use Rattle.table.specs.Columns.{rowAt, rowCount}
+use Rattle.sums.specs.LookupSum.{lookupSum}
+use Rattle.air.specs.Check.{AllZero, initialAt, consistencyAt, transitionAt, terminalAt, ConstraintsHold, checkReason, firstNonzero, checkedAs, checkAll}
 use Rattle.air.specs.Claim.{RowTells, DenominatorsNotZero, lastSum}
-use Rattle.air.proofs.Rows.{row-reduced}
+use Rattle.table.proofs.Rows.{row-reduced}
 use Rattle.air.proofs.Values.{AllReducedX, initial-reduced, consistency-reduced, transition-reduced, terminal-reduced}
 use Rattle.air.proofs.Scan.{rows-zero, zero-rows}
 use Rattle.air.proofs.Judging.{Accepted, accepted}
@@ -56,16 +56,16 @@ module _ (table aux challenges : List ℕ) where
       last-reduced i h = terminal-reduced (rowAt table i) (row-reduced table (ok .table-reduced) i h .rhs-below)
 
   -- ---- the claims
-  pub zero-iff : (checkAll table aux challenges ≡ done []) ↔ ((judgeCheck table aux challenges ≡ Fine) × ConstraintsHold table aux challenges)
+  pub zero-iff : (checkAll table aux challenges ≡ done []) ↔ ((checkReason table aux challenges ≡ Fine) × ConstraintsHold table aux challenges)
   unfolding checkAll
   zero-iff = (forwards, backwards)
     where
-      forwards : checkAll table aux challenges ≡ done [] → (judgeCheck table aux challenges ≡ Fine) × ConstraintsHold table aux challenges
+      forwards : checkAll table aux challenges ≡ done [] → (checkReason table aux challenges ≡ Fine) × ConstraintsHold table aux challenges
       forwards e =
-          let parts = not-refused (judgeCheck table aux challenges) (firstNonzero table aux challenges) e in
+          let parts = not-refused (checkReason table aux challenges) (firstNonzero table aux challenges) e in
           (parts .0, found-zero-constraints (accepted table aux challenges (parts .0)) (parts .1))
 
-      backwards : (judgeCheck table aux challenges ≡ Fine) × ConstraintsHold table aux challenges → checkAll table aux challenges ≡ done []
+      backwards : (checkReason table aux challenges ≡ Fine) × ConstraintsHold table aux challenges → checkAll table aux challenges ≡ done []
       backwards h = rw (h .0) (constraints-found-zero (h .1) (accepted table aux challenges (h .0) .some-row))
 
   pub sound : checkAll table aux challenges ≡ done [] → (i : ℕ) → i < rowCount table → rowAt table i .copyFlag ≡ 1

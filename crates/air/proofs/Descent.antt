@@ -11,10 +11,10 @@ use lib.Pow.{pow-mono}
 use Rattle.field.specs.Elements.{p, subF, mulF}
 use Rattle.field.proofs.Laws.{mulF-lt, subF-lt, mulF-zero-right, subF-self, subF-zero-right, subF-zero-eq, subF-plain, bit-law, flag-one-minus, flag-le, no-zero-divisors-word}
 use Rattle.isa.specs.Opcodes.{opPow}
-use Rattle.air.specs.Columns.{Row}
+use Rattle.table.specs.Columns.{Row}
 use Rattle.air.specs.Constraints.{ciIsPow, lhsLsb, rhsLsb}
 use Rattle.air.specs.Constraints as Poly
-use Rattle.air.proofs.Rows.{RowReduced}
+use Rattle.table.proofs.Rows.{RowReduced}
 use Rattle.air.proofs.Lists.{ConsistencyZero, TransitionZero}
 use Rattle.air.proofs.Factors.{Nonzero, word-one, difference, zero-less-one, _⊠_, last-zero}
 

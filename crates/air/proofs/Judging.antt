@@ -10,10 +10,10 @@ use borrow.Author.Tests.{eqb-false}
 use Rattle.words.specs.declared.Refusal.the-variants.{Shape, Short, Unreduced}
 use Rattle.words.specs.declared.Judgement.the-variants.{Fine}
 use Rattle.words.proofs.Judgements.{or-both, decline-fine, decline-not-fine}
-use Rattle.air.specs.Columns.{rowCount, auxWidth, allReduced}
-use Rattle.air.specs.Challenges.{challengeWords}
-use Rattle.air.specs.Check.{judgeCheck}
-use Rattle.air.proofs.Rows.{TableShape, shaped}
+use Rattle.table.specs.Columns.{rowCount, auxWidth, allReduced}
+use Rattle.table.specs.Challenges.{challengeWords}
+use Rattle.air.specs.Check.{checkReason}
+use Rattle.table.proofs.Rows.{TableShape, shaped}
 
 pub record Accepted (table aux challenges : List ℕ) : Type 0 where
   pub table-is-whole : TableShape table
@@ -24,8 +24,8 @@ pub record Accepted (table aux challenges : List ℕ) : Type 0 where
   pub challenges-reduced : allReduced challenges ≡ true
   pub aux-reduced : allReduced aux ≡ true
 
-pub accepted : (table aux challenges : List ℕ) → judgeCheck table aux challenges ≡ Fine → Accepted table aux challenges
-unfolding judgeCheck
+pub accepted : (table aux challenges : List ℕ) → checkReason table aux challenges ≡ Fine → Accepted table aux challenges
+unfolding checkReason
 accepted table aux challenges h =
     let one = or-both _ _ h in
     let seven = or-both _ _ (one .1) in

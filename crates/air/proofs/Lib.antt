@@ -1,4 +1,3 @@
-pub mod Rows
 pub mod Lists
 pub mod Factors
 pub mod Descent
@@ -8,11 +7,8 @@ pub mod Log2Floor
 pub mod Pow
 pub mod PopCount
 pub mod Soundness
-pub mod Denominators
-pub mod ZeroDenominators
 pub mod RunningSums
 pub mod Values
 pub mod Scan
 pub mod Judging
 pub mod Claims
-pub mod Groups

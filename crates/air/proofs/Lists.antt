@@ -4,8 +4,8 @@ use Prim.Native.Nat.{ℕ}
 use mathlib.Core.Path.{_≡_, refl, ap}
 use lib.ListN.{length}
 use Rattle.xfield.specs.Extension.{Ext, zeroX}
-use Rattle.air.specs.Columns.{Row}
-use Rattle.air.specs.Challenges.{Challenges}
+use Rattle.table.specs.Columns.{Row}
+use Rattle.table.specs.Challenges.{Challenges}
 use Rattle.air.specs.Constraints as Poly
 use Rattle.air.specs.Constraints.{baseValue, initialConstraints, consistencyConstraints, transitionConstraints, terminalConstraints}
 use Rattle.air.specs.Check.{AllZero, none, _and_}

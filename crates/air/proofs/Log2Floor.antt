@@ -12,7 +12,7 @@ use Rattle.isa.specs.Opcodes.{opLog2Floor}
 use Rattle.isa.specs.PlainFunctions.{floorLog2}
 use Rattle.isa.proofs.Logarithm.{floor-log2-one}
 use Rattle.isa.proofs.PlainLaws.{log-step}
-use Rattle.air.specs.Columns.{Row}
+use Rattle.table.specs.Columns.{Row}
 use Rattle.air.specs.Constraints.{instructionDeselector, lhsLsb}
 use Rattle.air.specs.Constraints as Poly
 use Rattle.air.proofs.Lists.{TransitionZero}

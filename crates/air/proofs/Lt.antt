@@ -10,7 +10,7 @@ use Rattle.field.proofs.Laws.{subF-lt, subF-zero-eq}
 use Rattle.isa.specs.Opcodes.{opLt}
 use Rattle.isa.specs.PlainFunctions.{plainLt}
 use Rattle.isa.proofs.PlainLaws.{lt-one, lt-zero}
-use Rattle.air.specs.Columns.{Row}
+use Rattle.table.specs.Columns.{Row}
 use Rattle.air.specs.Constraints.{instructionDeselector, lhsLsb, rhsLsb, equalBits}
 use Rattle.air.specs.Constraints as Poly
 use Rattle.air.proofs.Lists.{TransitionZero}

@@ -8,7 +8,7 @@ use Rattle.field.proofs.Laws.{subF-lt, subF-zero-eq, subF-plain}
 use Rattle.isa.specs.Opcodes.{opPopCount}
 use Rattle.isa.specs.PlainFunctions.{oneBits}
 use Rattle.isa.proofs.PlainLaws.{one-bits-zero, one-bits-step, one-bits-le}
-use Rattle.air.specs.Columns.{Row}
+use Rattle.table.specs.Columns.{Row}
 use Rattle.air.specs.Constraints.{instructionDeselector, lhsLsb}
 use Rattle.air.specs.Constraints as Poly
 use Rattle.air.proofs.Lists.{TransitionZero}

@@ -10,7 +10,7 @@ use Rattle.field.proofs.Laws.{subF-lt, mulF-lt, subF-zero-eq}
 use Rattle.isa.specs.Opcodes.{opPow}
 use Rattle.isa.specs.PlainFunctions.{plainPow}
 use Rattle.isa.proofs.PlainLaws.{pow-zero, pow-step-zero, pow-step-one}
-use Rattle.air.specs.Columns.{Row}
+use Rattle.table.specs.Columns.{Row}
 use Rattle.air.specs.Constraints.{instructionDeselector, rhsLsb}
 use Rattle.air.specs.Constraints as Poly
 use Rattle.air.proofs.Lists.{TransitionZero}

@@ -1,42 +1,38 @@
 -- The running sum: where all constraints are zero and no CopyFlag 1 row's denominator is zero, each row's aux element is the
 -- sum so far, and so the last one is the sum over the CopyFlag 1 rows. By induction on the row: the initial constraint gives the first
 -- sum, and of the two transition constraints one lets it stay where the next CopyFlag is 0, the other adds the next row where it is 1,
--- times the denominator, which its inverse cancels. Only ring laws are used, and that every element but zero has an inverse.
+-- times the denominator, which its inverse cancels. Only ring laws are used, and that every element but zero has an inverse. Reason 9 is not met
+-- exactly where no CopyFlag 1 row's denominator is zero.
 use Prim.Native.Nat.{ℕ, zero, suc, _+_, _-_, _*_, _<_}
 use mathlib.Core.Path.{_≡_, refl, sym, ap, ap₂, subst, _∙_}
-use mathlib.Core.Bool.{true}
-use mathlib.Core.Logic.{_⊎_, inl, inr}
+use mathlib.Core.Bool.{Bool, true, false, true≢false}
+use mathlib.Core.Logic.{_⊎_, inl, inr, _↔_}
 use mathlib.Core.List.{List, [], _∷_}
 use native.Mathlib.Numerals.{add-one}
 use native.Mathlib.Omega.{arith}
 use lib.ListN.{length}
-use borrow.Author.Tests.{eq-eqb, ne-eqb}
 use Rattle.field.specs.Elements.{subF}
 use Rattle.field.proofs.Ring.{var, con, neg, _:+_, _:*_, _:-_, combine}
 use Rattle.xfield.specs.Extension.{Ext, zeroX, liftX, addX, subX, mulX, scaleX, HasInverse, Reduced}
 use Rattle.xfield.proofs.RingLawsX.{𝔼, neg-oneX, liftX-subF, scaleX-is, subX-of-red, subX-reduced, reduced-same}
-use Rattle.xfield.proofs.Inverses.{invX, invX-mulX}
+use Rattle.xfield.specs.Inverses.{invX}
+use Rattle.xfield.proofs.Inverses.{invX-mulX}
 use Rattle.xfield.proofs.Laws.{only-zero-has-none}
-use Rattle.air.specs.Columns.{Row, rowAt, rowCount, auxAt, auxWidth, allReduced}
-use Rattle.air.specs.Challenges.{Challenges, challengesOf, denominator, rowDenominator}
-use Rattle.air.specs.RunningSum.{Summand, addSummand, runningSum, summandAt, lookupSum}
+use Rattle.table.specs.Columns.{Row, rowAt, rowCount, auxAt, auxWidth, allReduced}
+use Rattle.table.specs.Challenges.{Challenges, challengesOf, denominator, rowDenominator}
+use Rattle.sums.specs.RunningSum.{addSummand, runningSum, denominatorsOk, ZeroDenominator}
+use Rattle.sums.specs.LookupSum.{summandAt, lookupSum}
+use Rattle.sums.proofs.RunningSums.{adds-nothing, adds-share}
+use Rattle.sums.proofs.ZeroDenominators.{flat-exactly}
+use Rattle.sums.proofs.LookupSums.{summand-reduced}
 use Rattle.air.specs.Constraints.{baseValue}
 use Rattle.air.specs.Constraints as Poly
 use Rattle.air.specs.Check.{ConstraintsHold}
 use Rattle.air.specs.Claim.{DenominatorsNotZero, lastSum}
-use Rattle.air.proofs.Rows.{element-reduced}
+use Rattle.table.proofs.Rows.{element-reduced}
 use Rattle.air.proofs.Lists.{initial-zero, SumZero, sum-zero}
 use Rattle.air.proofs.Descent.{copyFlag-bit}
 use Rattle.air.proofs.Soundness.{row-ok}
-
--- ---- a summand
-pub adds-nothing : (sum : Ext) (s : Summand) → s .flag ≡ 0 → addSummand sum s ≡ sum
-unfolding addSummand
-adds-nothing sum s f = rw (ne-eqb (s .flag) 1 (omega arith))
-
-pub adds-share : (sum : Ext) (s : Summand) → s .flag ≡ 1 → addSummand sum s ≡ addX sum (scaleX (s .multiplicity) (invX (s .denominator)))
-unfolding addSummand
-adds-share sum s f = rw (eq-eqb (s .flag) 1 f)
 
 -- ---- the constraints as equations of the extension ring
 -- flag − 1, times an element
@@ -181,3 +177,20 @@ module _ (table aux challenges : List ℕ) (table-reduced : allReduced table ≡
   unfolding lookupSum
   last-is-lookup-sum h =
       sum-so-far (rowCount table - 1) (omega arith) ∙ ap (runningSum (summandAt table challenges)) (omega arith)
+
+-- ---- where reason 9 is not met
+-- nothing is against them exactly where the check's clause on the last sum speaks
+pub denominators-not-zero : (table challenges : List ℕ)
+    → (denominatorsOk (summandAt table challenges) (rowCount table) ≡ true) ↔ DenominatorsNotZero table challenges
+unfolding summandAt
+denominators-not-zero table challenges = (
+  λ h i l f e. true≢false (sym h ∙ exactly .1 (i, l, f, e)),
+  λ g. told g (denominatorsOk (summandAt table challenges) (rowCount table)) refl,
+)
+  where
+    exactly : (denominatorsOk (summandAt table challenges) (rowCount table) ≡ false) ↔ ZeroDenominator (summandAt table challenges) (rowCount table)
+    exactly = flat-exactly (summandAt table challenges) (rowCount table) (summand-reduced table challenges)
+
+    told : DenominatorsNotZero table challenges → (t : Bool) → denominatorsOk (summandAt table challenges) (rowCount table) ≡ t → t ≡ true
+    told g true e = refl
+    told g false e = let z = exactly .0 e in absurd (g (z .0) (z .1) (z .2) (z .3))

@@ -13,13 +13,13 @@ use lib.Dec.{lit<}
 use Rattle.field.specs.Elements.{p}
 use Rattle.field.proofs.Laws.{subF-lt}
 use Rattle.isa.specs.Opcodes.{opPow}
-use Rattle.air.specs.Columns.{Row, rowAt, rowCount, auxAt, allReduced}
-use Rattle.air.specs.Challenges.{challengesOf}
+use Rattle.table.specs.Columns.{Row, rowAt, rowCount, auxAt, allReduced}
+use Rattle.table.specs.Challenges.{challengesOf}
 use Rattle.air.specs.Constraints.{ciIsPow}
 use Rattle.air.specs.Constraints as Poly
 use Rattle.air.specs.Check.{ConstraintsHold}
 use Rattle.air.specs.Claim.{RowTells}
-use Rattle.air.proofs.Rows.{RowReduced, row-reduced}
+use Rattle.table.proofs.Rows.{RowReduced, row-reduced}
 use Rattle.air.proofs.Lists.{TransitionZero, TerminalZero, consistency-zero, transition-zero, terminal-zero}
 use Rattle.air.proofs.Factors.{Nonzero, word-one, difference, _⊠_, last-zero}
 use Rattle.air.proofs.Descent.{RowOk, EndRow, Continues, end-or-continues, Descent, end, step, first-ok, copyFlag-bit, bits-zero, steps-bound, rhs-bound, lhs-bound, below-32-bits}

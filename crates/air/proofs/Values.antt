@@ -7,8 +7,8 @@ use Rattle.field.specs.Elements.{p, subF, mulF}
 use Rattle.field.proofs.Laws.{mulF-lt, subF-lt}
 use Rattle.xfield.specs.Extension.{Ext, Reduced}
 use Rattle.xfield.proofs.RingLawsX.{addX-reduced, scaleX-reduced}
-use Rattle.air.specs.Columns.{Row}
-use Rattle.air.specs.Challenges.{Challenges}
+use Rattle.table.specs.Columns.{Row}
+use Rattle.table.specs.Challenges.{Challenges}
 use Rattle.air.specs.Constraints as Poly
 use Rattle.air.specs.Constraints.{baseValue, initialConstraints, consistencyConstraints, transitionConstraints, terminalConstraints}
 

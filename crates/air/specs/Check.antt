@@ -10,8 +10,8 @@ use Rattle.words.specs.declared.Judgement.{Judgement}
 use Rattle.words.specs.declared.Judgement.the-variants.{Fine, Declined}
 use Rattle.words.specs.declared.Refusal.the-variants.{Shape, Short, Unreduced}
 use Rattle.xfield.specs.Extension.{Ext, zeroX, isZeroX}
-use Rattle.air.specs.Columns.{rowAt, rowCount, auxAt, tableShape, auxShape, allReduced}
-use Rattle.air.specs.Challenges.{challengesOf, challengesShape}
+use Rattle.table.specs.Columns.{rowAt, rowCount, auxAt, tableShape, auxShape, allReduced}
+use Rattle.table.specs.Challenges.{challengesOf, challengesShape}
 use Rattle.air.specs.Constraints.{initialConstraints, consistencyConstraints, transitionConstraints, terminalConstraints}
 
 -- ---- the constraints of a table, where they are asked
@@ -45,11 +45,15 @@ pub record ConstraintsHold (table aux challenges : List ℕ) : Type 0 where
 
 -- ---- the answer
 -- "Check 1, 7, 8": 7 is "check on no rows", 8 "a word p or more: table, challenge or, in the check, aux"
-unfoldable pub judgeCheck : List ℕ → List ℕ → List ℕ → Judgement
-judgeCheck table aux challenges =
+unfoldable pub checkReason : List ℕ → List ℕ → List ℕ → Judgement
+checkReason table aux challenges =
     orElse (declineIf (not (tableShape table && (auxShape table aux && challengesShape challenges))) Shape)
     (orElse (declineIf (eqb (rowCount table) 0) Short)
     (declineIf (not (allReduced table && (allReduced challenges && allReduced aux))) Unreduced))
+
+-- "or it answers zero": nothing more comes with it
+abbrev pub zeroAnswer : Answer
+zeroAnswer = done []
 
 -- "group 0 to 3, (upper) row, index from 0 and three-word value"
 abbrev pub nonzero : ℕ → ℕ → ℕ → Ext → Answer
@@ -75,11 +79,11 @@ firstNonzero table aux challenges =
     (firstInRows (consistencyAt table) 1 0 (rowCount table)
     (firstInRows (transitionAt table aux challenges) 2 0 (rowCount table - 1)
     (firstInRows (terminalAt table) 3 (rowCount table - 1) 1
-    (done []))))
+    zeroAnswer)))
 
 abbrev pub checkedAs : Judgement → Answer → Answer
 checkedAs Fine found = found
 checkedAs (Declined reason) found = declined reason
 
 unfoldable pub checkAll : List ℕ → List ℕ → List ℕ → Answer
-checkAll table aux challenges = checkedAs (judgeCheck table aux challenges) (firstNonzero table aux challenges)
+checkAll table aux challenges = checkedAs (checkReason table aux challenges) (firstNonzero table aux challenges)

@@ -6,8 +6,8 @@ use mathlib.Core.List.{List}
 use Rattle.xfield.specs.Extension.{Ext, zeroX}
 use Rattle.isa.specs.Opcodes.{opLt, opAnd, opLog2Floor, opPow, opPopCount}
 use Rattle.isa.specs.PlainFunctions.{plainLt, plainAnd, floorLog2, plainPow, oneBits}
-use Rattle.air.specs.Columns.{Row, rowAt, rowCount, auxAt}
-use Rattle.air.specs.Challenges.{challengesOf, rowDenominator}
+use Rattle.table.specs.Columns.{Row, rowAt, rowCount, auxAt}
+use Rattle.table.specs.Challenges.{challengesOf, rowDenominator}
 
 -- what a row with CopyFlag 1 tells: bounds for the operands, and Result is the plain function of LHS and RHS
 pub record RowTells (row : Row) : Type 0 where

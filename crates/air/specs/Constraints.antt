@@ -8,8 +8,8 @@ use lib.Dec.{eqb}
 use Rattle.field.specs.Elements.{addF, subF, mulF}
 use Rattle.xfield.specs.Extension.{Ext, ext, zeroX, addX, subX, mulX, scaleX}
 use Rattle.isa.specs.Opcodes.{opSplit, opLt, opAnd, opLog2Floor, opPow, opPopCount}
-use Rattle.air.specs.Columns.{Row}
-use Rattle.air.specs.Challenges.{Challenges, rowDenominator}
+use Rattle.table.specs.Columns.{Row}
+use Rattle.table.specs.Challenges.{Challenges, rowDenominator}
 
 infixl 60 _⊕_ _⊖_
 infixl 70 _⊗_

@@ -2,17 +2,17 @@
 use Prim.Native.Nat.{ℕ}
 use mathlib.Core.List.{[], _∷_, _++_}
 use Rattle.words.specs.Answers.{Answer, done}
+use Rattle.words.specs.Outcomes.{Outcome}
 use Rattle.isa.specs.declared.U32TableEntry.{U32TableEntry}
 use Rattle.isa.specs.declared.Order.{Order}
 use Rattle.isa.specs.declared.Order.the-variants.{Less, Equal, Greater}
 use Rattle.isa.specs.Entries.{compareEntries}
-use Rattle.list.specs.Lists.{used}
-use Rattle.list_record.specs.Recording.{After}
+use Rattle.list.specs.Lists.{U32List, used}
 
 -- "the answer is the key's position", then the places used afterwards, which "change with a recording"
-abbrev pub withUsed : After → Answer
-withUsed after =
-    record { number = after .answer .number; values = after .answer .values ++ (used (after .list) ∷ []) }
+abbrev pub withUsed : Outcome U32List → Answer
+withUsed due =
+    record { number = due .answer .number; values = due .answer .values ++ (used (due .left) ∷ []) }
 
 -- "less, equal or greater": 0, 1 or 2
 abbrev pub orderNumber : Order → ℕ

@@ -2,7 +2,7 @@
 // into `answers`.
 ghost use mathlib.Core.Path.{_≡_};
 ghost use Rattle.isa.specs.Entries.{entry};
-ghost use Rattle.list_record.specs.Heights.{planAll};
+ghost use Rattle.list_record.specs.Plan.{planAll};
 ghost use Rattle.list_record.specs.Recording.{recordAll};
 ghost use Rattle.list_stored.specs.Stored.{readAll, writeAll};
 ghost use Rattle.c_answers.specs.Exports.{lentList, lentDue, Exported};
@@ -39,14 +39,14 @@ pub fn record_entry(
     answers: &mut [u64],
 ) -> u64
     ensures answers { λ r. ⌜ Exported 2 (withUsed (recordAll (lentList capacity used (now (keys .entry)) (now (multiplicities .entry))) (entry opcode «left_operand» «right_operand»))) (now (answers .entry)) r (now (answers .exit)) ⌝ }
-    ensures keys { λ _. ⌜ now (keys .exit) ≡ lentDue 2 (now (answers .entry)) (now (keys .entry)) (recordAll (lentList capacity used (now (keys .entry)) (now (multiplicities .entry))) (entry opcode «left_operand» «right_operand») .list .keys) ⌝ }
-    ensures multiplicities { λ _. ⌜ now (multiplicities .exit) ≡ lentDue 2 (now (answers .entry)) (now (multiplicities .entry)) (recordAll (lentList capacity used (now (keys .entry)) (now (multiplicities .entry))) (entry opcode «left_operand» «right_operand») .list .multiplicities) ⌝ }
+    ensures keys { λ _. ⌜ now (keys .exit) ≡ lentDue 2 (now (answers .entry)) (now (keys .entry)) (recordAll (lentList capacity used (now (keys .entry)) (now (multiplicities .entry))) (entry opcode «left_operand» «right_operand») .left .keys) ⌝ }
+    ensures multiplicities { λ _. ⌜ now (multiplicities .exit) ≡ lentDue 2 (now (answers .entry)) (now (multiplicities .entry)) (recordAll (lentList capacity used (now (keys .entry)) (now (multiplicities .entry))) (entry opcode «left_operand» «right_operand») .left .multiplicities) ⌝ }
 {
     if answers.len() < RECORD_ANSWERS {
         return SHAPE;
     }
     let sizes = Sizes { capacity, used };
-    let r = list_record::record_u32_table_entry_by_value(
+    let r = list_record::record_lending(
         sizes,
         keys,
         multiplicities,
@@ -131,8 +131,8 @@ pub fn read(
     answers: &mut [u64],
 ) -> u64
     ensures answers { λ r. ⌜ Exported 1 (readAll (lentList capacity used (now (keys .entry)) (now (multiplicities .entry))) (now (bytes .entry)) .answer) (now (answers .entry)) r (now (answers .exit)) ⌝ }
-    ensures keys { λ _. ⌜ now (keys .exit) ≡ lentDue 1 (now (answers .entry)) (now (keys .entry)) (readAll (lentList capacity used (now (keys .entry)) (now (multiplicities .entry))) (now (bytes .entry)) .list .keys) ⌝ }
-    ensures multiplicities { λ _. ⌜ now (multiplicities .exit) ≡ lentDue 1 (now (answers .entry)) (now (multiplicities .entry)) (readAll (lentList capacity used (now (keys .entry)) (now (multiplicities .entry))) (now (bytes .entry)) .list .multiplicities) ⌝ }
+    ensures keys { λ _. ⌜ now (keys .exit) ≡ lentDue 1 (now (answers .entry)) (now (keys .entry)) (readAll (lentList capacity used (now (keys .entry)) (now (multiplicities .entry))) (now (bytes .entry)) .left .keys) ⌝ }
+    ensures multiplicities { λ _. ⌜ now (multiplicities .exit) ≡ lentDue 1 (now (answers .entry)) (now (multiplicities .entry)) (readAll (lentList capacity used (now (keys .entry)) (now (multiplicities .entry))) (now (bytes .entry)) .left .multiplicities) ⌝ }
 {
     if answers.len() < READ_ANSWERS {
         return SHAPE;
@@ -159,7 +159,7 @@ pub fn write(
     answers: &mut [u64],
 ) -> u64
     ensures answers { λ r. ⌜ Exported 1 (writeAll (lentList capacity used (now (keys .entry)) (now (multiplicities .entry))) (now (out .entry)) .answer) (now (answers .entry)) r (now (answers .exit)) ⌝ }
-    ensures bytes { λ _. ⌜ now (out .exit) ≡ lentDue 1 (now (answers .entry)) (now (out .entry)) (writeAll (lentList capacity used (now (keys .entry)) (now (multiplicities .entry))) (now (out .entry)) .bytes) ⌝ }
+    ensures bytes { λ _. ⌜ now (out .exit) ≡ lentDue 1 (now (answers .entry)) (now (out .entry)) (writeAll (lentList capacity used (now (keys .entry)) (now (multiplicities .entry))) (now (out .entry)) .left) ⌝ }
 {
     if answers.len() < WRITE_ANSWERS {
         return SHAPE;

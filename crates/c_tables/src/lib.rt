@@ -1,18 +1,15 @@
 // The calls on tables as the C functions make them: sizes are numbers, the number of document 01 is returned, and further answers go into
 // `answers`.
 ghost use mathlib.Core.Path.{_≡_};
-ghost use Rattle.air.specs.Check.{checkAll};
-ghost use Rattle.fill.specs.Filling.{fillAll};
 ghost use Rattle.fill.specs.Padding.{padAll};
-ghost use Rattle.fill.specs.Extending.{extendAll};
-ghost use Rattle.c_answers.specs.Exports.{lentList, lentDue, Exported};
-ghost use Rattle.c_tables.specs.TableAnswers.{verdictDue, SaysZeroIff, SaysZeroSound, SaysZeroSums};
+ghost use Rattle.c_tables.specs.TableAnswers.{FillAnswers, FillLeaves, ExtendAnswers, ExtendLeaves};
+ghost use Rattle.c_tables.specs.TableAnswers.{CheckAnswers, SaysZeroIff, SaysZeroSound, SaysZeroSums};
 use c_answers::SHAPE;
 use check_table::Verdict;
 use extend::Extended;
 use fill::Filled;
-use fill::Padded;
 use list::Sizes;
+use words::Completed;
 
 // How many words of `answers` each call states.
 const FILL_ANSWERS: usize = 1;
@@ -30,8 +27,8 @@ pub fn fill(
     table: &mut [u64],
     answers: &mut [u64],
 ) -> u64
-    ensures answers { λ r. ⌜ Exported 1 (fillAll (lentList capacity used (now (keys .entry)) (now (multiplicities .entry))) (now (table .entry)) .answer) (now (answers .entry)) r (now (answers .exit)) ⌝ }
-    ensures table { λ _. ⌜ now (table .exit) ≡ lentDue 1 (now (answers .entry)) (now (table .entry)) (fillAll (lentList capacity used (now (keys .entry)) (now (multiplicities .entry))) (now (table .entry)) .table) ⌝ }
+    ensures answers { λ r. ⌜ FillAnswers capacity used (now (keys .entry)) (now (multiplicities .entry)) (now (table .entry)) (now (answers .entry)) r (now (answers .exit)) ⌝ }
+    ensures table { λ _. ⌜ FillLeaves capacity used (now (keys .entry)) (now (multiplicities .entry)) (now (table .entry)) (now (answers .entry)) (now (table .exit)) ⌝ }
 {
     if answers.len() < FILL_ANSWERS {
         return SHAPE;
@@ -49,18 +46,18 @@ pub fn fill(
 // It has no answers besides the number.
 pub fn pad(table: &mut [u64], filled: usize) -> u64
     ensures number { λ r. ⌜ r ≡ padAll (now (table .entry)) filled .answer .number ⌝ }
-    ensures table { λ _. ⌜ now (table .exit) ≡ padAll (now (table .entry)) filled .table ⌝ }
+    ensures table { λ _. ⌜ now (table .exit) ≡ padAll (now (table .entry)) filled .left ⌝ }
 {
     match fill::pad(table, filled) {
-        Padded::Done => 0,
-        Padded::Refused(reason) => reason.number(),
+        Completed::Done => 0,
+        Completed::Refused(reason) => reason.number(),
     }
 }
 
 // Answers: the three words of the last sum.
 pub fn extend(table: &[u64], aux: &mut [u64], challenges: &[u64], answers: &mut [u64]) -> u64
-    ensures answers { λ r. ⌜ Exported 3 (extendAll (now (table .entry)) (now (aux .entry)) (now (challenges .entry)) .answer) (now (answers .entry)) r (now (answers .exit)) ⌝ }
-    ensures aux { λ _. ⌜ now (aux .exit) ≡ lentDue 3 (now (answers .entry)) (now (aux .entry)) (extendAll (now (table .entry)) (now (aux .entry)) (now (challenges .entry)) .aux) ⌝ }
+    ensures answers { λ r. ⌜ ExtendAnswers (now (table .entry)) (now (aux .entry)) (now (challenges .entry)) (now (answers .entry)) r (now (answers .exit)) ⌝ }
+    ensures aux { λ _. ⌜ ExtendLeaves (now (table .entry)) (now (aux .entry)) (now (challenges .entry)) (now (answers .entry)) (now (aux .exit)) ⌝ }
 {
     if answers.len() < EXTEND_ANSWERS {
         return SHAPE;
@@ -78,7 +75,7 @@ pub fn extend(table: &[u64], aux: &mut [u64], challenges: &[u64], answers: &mut 
 
 // Answers: 0 where every constraint is zero, and nothing more; else 1, group, row, index and the three words of the value.
 pub fn check(table: &[u64], aux: &[u64], challenges: &[u64], answers: &mut [u64]) -> u64
-    ensures answers { λ r. ⌜ Exported 7 (verdictDue (checkAll (now (table .entry)) (now (aux .entry)) (now (challenges .entry)))) (now (answers .entry)) r (now (answers .exit)) ⌝ }
+    ensures answers { λ r. ⌜ CheckAnswers (now (table .entry)) (now (aux .entry)) (now (challenges .entry)) (now (answers .entry)) r (now (answers .exit)) ⌝ }
     ensures zero_iff { λ r. ⌜ SaysZeroIff (now (table .entry)) (now (aux .entry)) (now (challenges .entry)) (now (answers .entry)) r (now (answers .exit)) ⌝ }
     ensures sound { λ r. ⌜ SaysZeroSound (now (table .entry)) r (now (answers .exit)) ⌝ }
     ensures sum { λ r. ⌜ SaysZeroSums (now (table .entry)) (now (aux .entry)) (now (challenges .entry)) r (now (answers .exit)) ⌝ }

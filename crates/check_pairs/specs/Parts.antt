@@ -6,7 +6,7 @@ use mathlib.Core.Path.{_≡_}
 use mathlib.Core.List.{List, [], _∷_}
 use Rattle.xfield.specs.Extension.{Ext, subX, mulX, scaleX}
 use Rattle.xfield.specs.XFieldElements.{extOf}
-use Rattle.air.specs.Columns.{Row}
+use Rattle.table.specs.Columns.{Row}
 use Rattle.air.specs.Constraints.{_⊖_, _⊗_, oneMinusProduct, ciIsPow, equalBits, baseValue}
 use Rattle.air.specs.Constraints.{«if_copy_flag_next_is_1_then_lhs_is_0_or_ci_is_pow»}
 use Rattle.air.specs.Constraints.{«if_copy_flag_next_is_1_then_rhs_is_0»}

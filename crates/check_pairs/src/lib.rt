@@ -1,5 +1,38 @@
 // The transition constraints of the U32 table, evaluated on a row and the row below it. What several polynomials share is computed
 // once, and a base constraint is computed in base elements. The values stand in the order of the source's list.
+//
+// Each constraint by its place and the name that the source and air/specs/Constraints.antt give it, under the function that computes it:
+// `general_transition`
+//    0 if_copy_flag_next_is_1_then_lhs_is_0_or_ci_is_pow
+//    1 if_copy_flag_next_is_1_then_rhs_is_0
+//    2 if_copy_flag_next_is_0_then_ci_stays
+//    3 if_copy_flag_next_is_0_and_lhs_next_is_nonzero_and_ci_not_pow_then_bits_increases_by_1
+//    4 if_copy_flag_next_is_0_and_rhs_next_is_nonzero_then_bits_increases_by_1
+// `bit_transition`
+//    5 if_copy_flag_next_is_0_and_ci_not_pow_then_lhs_lsb_is_a_bit
+//    6 if_copy_flag_next_is_0_then_rhs_lsb_is_a_bit
+// `decided_lt_transition`
+//    7 if_copy_flag_next_is_0_and_ci_is_lt_and_result_next_is_0_then_result_is_0
+//    8 if_copy_flag_next_is_0_and_ci_is_lt_and_result_next_is_1_then_result_is_1
+// `undecided_lt_transition`
+//    9 if_copy_flag_next_is_0_and_ci_is_lt_and_result_next_is_2_and_lt_is_0_then_result_is_0
+//   10 if_copy_flag_next_is_0_and_ci_is_lt_and_result_next_is_2_and_lt_is_1_then_result_is_1
+//   11 if_copy_flag_next_is_0_and_ci_is_lt_and_result_still_not_known_then_result_is_2
+//   12 if_copy_flag_next_is_0_and_ci_is_lt_and_copy_flag_dictates_result_then_result_is_0
+// `and_log_2_floor_transition`
+//   13 if_copy_flag_next_is_0_and_ci_is_and_then_results_updates_correctly
+//   14 if_copy_flag_next_is_0_and_ci_is_log_2_floor_lhs_next_0_for_first_time_then_set_result
+//   15 if_copy_flag_next_is_0_and_ci_is_log_2_floor_and_lhs_next_not_0_then_copy_result
+// `pow_pop_count_transition`
+//   16 if_copy_flag_next_is_0_and_ci_is_pow_then_lhs_remains_unchanged
+//   17 if_copy_flag_next_is_0_and_ci_is_pow_and_rhs_lsb_is_0_then_result_squares
+//   18 if_copy_flag_next_is_0_and_ci_is_pow_and_rhs_lsb_is_1_then_result_squares_and_mults
+//   19 if_copy_flag_next_is_0_and_ci_is_pop_count_then_result_increases_by_lhs_lsb
+// `running_sum_transition`
+//   20 if_copy_flag_next_is_0_then_running_sum_log_derivative_stays
+//   21 if_copy_flag_next_is_1_then_running_sum_log_derivative_accumulates_next_row
+// The polynomials decide where a name says another thing (docs/DIFFERENCES.md): 9 asks for Result 1 and 10 for Result 0; 3 and 4 ask the upper
+// row's LHS and RHS.
 ghost use mathlib.Core.Path.{_≡_};
 ghost use mathlib.Core.List.{map};
 ghost use Rattle.xfield.specs.XFieldElements.{extOf};
@@ -14,6 +47,9 @@ use table::AuxRow;
 use table::Challenges;
 use table::MainRow;
 use xfield::XFieldElement;
+
+// How many transition constraints there are.
+pub const TRANSITION_COUNT: usize = 22;
 
 // The bits that leave LHS and RHS, their product, and 1 where they are equal, else 0.
 struct LeastBits {
@@ -290,7 +326,7 @@ fn transition_values(
     base: BaseTransition,
     stays: XFieldElement,
     accumulates: XFieldElement,
-) -> [XFieldElement; 22]
+) -> [XFieldElement; TRANSITION_COUNT]
     ensures { λ r. ⌜ map extOf r ≡ transitionValues base (extOf stays) (extOf accumulates) ⌝ }
 {
     [
@@ -325,7 +361,7 @@ pub fn transition_constraints(
     lower: MainRow,
     aux: AuxRow,
     aux_next: AuxRow,
-) -> [XFieldElement; 22]
+) -> [XFieldElement; TRANSITION_COUNT]
     ensures { λ r. ⌜ map extOf r ≡ transitionConstraints (challengesIn challenges) (rowOf upper) (rowOf lower) (sumOf aux) (sumOf «aux_next») ⌝ }
 {
     let sum = aux.lookup_server_log_derivative;

@@ -10,7 +10,7 @@ use Rattle.field.proofs.Ring.{con, _:+_, solve}
 use Rattle.field.proofs.RingLaws.{𝔹}
 use Rattle.isa.specs.Opcodes.{opLt, opLog2Floor, opAnd, opPopCount, opPow}
 use Rattle.isa.proofs.Entries.{OneOfSix}
-use Rattle.air.specs.Columns.{Row}
+use Rattle.table.specs.Columns.{Row}
 use Rattle.air.specs.Constraints as Poly
 use Rattle.air.specs.Constraints.{oneMinusProduct}
 use Rattle.air.proofs.Lists.{ConsistencyZero}

@@ -11,7 +11,7 @@ use Rattle.field.specs.Elements.{p, addF, subF, mulF}
 use Rattle.field.proofs.Laws.{bit-of-half, mulF-small, subF-more, subF-double}
 use Rattle.isa.specs.Opcodes.{opLt, opLog2Floor, opAnd, opPopCount, opPow}
 use Rattle.isa.proofs.Entries.{OneOfSix}
-use Rattle.air.specs.Columns.{Row}
+use Rattle.table.specs.Columns.{Row}
 use Rattle.air.specs.Constraints as Poly
 use Rattle.air.specs.Constraints.{instructionDeselector, ciIsPow, lhsLsb, rhsLsb, oneMinusProduct}
 use Rattle.air.proofs.Lists.{TransitionZero}

@@ -7,8 +7,8 @@ use Rattle.field.specs.Elements.{subF}
 use Rattle.field.proofs.Laws.{subF-self}
 use Rattle.xfield.specs.Extension.{Ext, zeroX, reduceX, isZeroX, liftX, subX, mulX, scaleX}
 use Rattle.xfield.proofs.Laws.{isZeroX-true, subX-self, scaleX-is, scaleX-zero, scaleX-red, mulX-zero-right}
-use Rattle.air.specs.Columns.{Row}
-use Rattle.air.specs.Challenges.{Challenges}
+use Rattle.table.specs.Columns.{Row}
+use Rattle.table.specs.Challenges.{Challenges}
 use Rattle.air.specs.Constraints as Poly
 use Rattle.air.proofs.Lists.{SumZero}
 

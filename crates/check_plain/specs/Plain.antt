@@ -5,7 +5,7 @@ use mathlib.Core.Path.{_≡_}
 use mathlib.Core.Logic.{_⊎_}
 use Rattle.field.specs.Elements.{p, addF, subF, mulF}
 use Rattle.isa.specs.Opcodes.{opSplit, opLt, opAnd, opLog2Floor, opPow, opPopCount}
-use Rattle.air.specs.Columns.{Row}
+use Rattle.table.specs.Columns.{Row}
 
 -- ---- one row
 -- CopyFlag 1 only at Bits 0; CopyFlag 0 with multiplicity 0

@@ -1,4 +1,4 @@
--- What the code's deselectors are.
+-- What the code's deselectors are. No contract of a call cites this page.
 use Prim.Native.Nat.{ℕ}
 use mathlib.Core.Path.{_≡_}
 use Rattle.field.specs.Elements.{mulF}

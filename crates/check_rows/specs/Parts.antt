@@ -4,7 +4,7 @@
 use Prim.Native.Nat.{ℕ}
 use mathlib.Core.Path.{_≡_}
 use Rattle.xfield.specs.Extension.{Ext, zeroX, addX, subX, mulX, scaleX}
-use Rattle.air.specs.Columns.{Row}
+use Rattle.table.specs.Columns.{Row}
 use Rattle.air.specs.Constraints.{_⊕_, _⊖_, _⊗_, oneMinusProduct, baseValue}
 use Rattle.air.specs.Constraints.{«copy_flag_is_bit»}
 use Rattle.air.specs.Constraints.{«copy_flag_is_0_or_bits_is_0»}

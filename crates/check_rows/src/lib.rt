@@ -1,5 +1,31 @@
 // The constraints of the U32 table on one row: initial, consistency and terminal. What several polynomials share is computed once, and
 // a base constraint is computed in base elements. An evaluator answers the constraints' values, in the order of the source's list.
+//
+// Each constraint by its place and the name that the source and air/specs/Constraints.antt give it, under the function that computes it:
+// `starts`, of the initial constraints
+//    0 running_sum_log_derivative_starts_correctly
+// `flag_consistency`
+//    0 copy_flag_is_bit
+//    1 copy_flag_is_0_or_bits_is_0
+//    2 bits_minus_33_inv_is_inverse_of_bits_minus_33
+//   14 if_copy_flag_is_0_then_lookup_multiplicity_is_0
+// `inverse_consistency` of LHS
+//    3 lhs_inv_is_0_or_the_inverse_of_lhs
+//    4 lhs_is_0_or_lhs_inverse_is_the_inverse_of_lhs
+// `inverse_consistency` of RHS
+//    5 rhs_inv_is_0_or_the_inverse_of_rhs
+//    6 rhs_is_0_or_rhs_inverse_is_the_inverse_of_rhs
+// `result_consistency`
+//    7 result_is_initialized_correctly_for_lt_with_copy_flag_0
+//    8 result_is_initialized_correctly_for_lt_with_copy_flag_1
+//    9 result_is_initialized_correctly_for_and
+//   10 result_is_initialized_correctly_for_pow
+//   11 result_is_initialized_correctly_for_log_2_floor
+//   12 result_is_initialized_correctly_for_pop_count
+//   13 if_log_2_floor_on_0_then_vm_crashes
+// `terminal_constraints`
+//    0 lhs_is_0_or_ci_is_pow
+//    1 rhs_is_0
 ghost use mathlib.Core.Path.{_≡_};
 ghost use mathlib.Core.List.{map};
 ghost use Rattle.xfield.specs.Extension.{subX, mulX, scaleX};
@@ -13,6 +39,13 @@ use table::AuxRow;
 use table::Challenges;
 use table::MainRow;
 use xfield::XFieldElement;
+
+// How many constraints each group has.
+pub const INITIAL_COUNT: usize = 1;
+
+pub const CONSISTENCY_COUNT: usize = 15;
+
+pub const TERMINAL_COUNT: usize = 2;
 
 // The instruction deselectors of a CI. No constraint asks for split's.
 pub struct Deselectors {
@@ -101,7 +134,11 @@ fn starts(
         .add(accumulated(copy_flag, sum, denominator, multiplicity))
 }
 
-pub fn initial_constraints(challenges: Challenges, row: MainRow, aux: AuxRow) -> [XFieldElement; 1]
+pub fn initial_constraints(
+    challenges: Challenges,
+    row: MainRow,
+    aux: AuxRow,
+) -> [XFieldElement; INITIAL_COUNT]
     ensures { λ r. ⌜ map extOf r ≡ initialConstraints (challengesIn challenges) (rowOf row) (sumOf aux) ⌝ }
 {
     let sum = aux.lookup_server_log_derivative;
@@ -192,7 +229,7 @@ fn result_consistency(
     }
 }
 
-pub fn consistency_constraints(row: MainRow) -> [XFieldElement; 15]
+pub fn consistency_constraints(row: MainRow) -> [XFieldElement; CONSISTENCY_COUNT]
     ensures { λ r. ⌜ map extOf r ≡ consistencyConstraints (rowOf row) ⌝ }
 {
     let flag = flag_consistency(row);
@@ -226,7 +263,7 @@ pub fn consistency_constraints(row: MainRow) -> [XFieldElement; 15]
 }
 
 // ---- terminal
-pub fn terminal_constraints(row: MainRow) -> [XFieldElement; 2]
+pub fn terminal_constraints(row: MainRow) -> [XFieldElement; TERMINAL_COUNT]
     ensures { λ r. ⌜ map extOf r ≡ terminalConstraints (rowOf row) ⌝ }
 {
     let lhs_is_0_or_ci_is_pow = row.lhs.mul(row.ci.sub(BFieldElement(isa::POW)));

@@ -1,4 +1,4 @@
--- What a search answers before another.
+-- What a search answers before another. No contract of a call cites this page.
 use Rattle.words.specs.Answers.{Answer}
 use Rattle.xfield.specs.XFieldElements.{extOf}
 use Rattle.air.specs.Check.{nonzero}

@@ -4,15 +4,19 @@ ghost use mathlib.Core.Path.{_≡_};
 ghost use Prim.Native.Nat.{_*_, _-_, _≤_, _<_};
 ghost use lib.ListN.{length};
 ghost use Rattle.words.specs.Answers.{Answer};
-ghost use Rattle.air.specs.Columns.{auxWidth, rowCount};
-ghost use Rattle.air.specs.Challenges.{challengeWords};
+ghost use Rattle.table.specs.Columns.{auxWidth, rowCount};
+ghost use Rattle.table.specs.Challenges.{challengeWords};
 ghost use Rattle.air.specs.Check.{initialAt, consistencyAt, transitionAt, terminalAt, firstInRows};
 ghost use Rattle.check_search.specs.Finds.{followedBy};
+use check_pairs::TRANSITION_COUNT;
+use check_rows::CONSISTENCY_COUNT;
+use check_rows::TERMINAL_COUNT;
 use table::AuxRow;
 use table::Challenges;
 use table::MainRow;
 use xfield::XFieldElement;
 
+// What a search finds.
 pub enum Found {
     Nothing,
     // Group 0 to 3, (upper) row, index from 0, and the value there.
@@ -53,7 +57,7 @@ pub fn consistency(table: &[u64]) -> Found
         }
         let values = check_rows::consistency_constraints(current);
         let mut index = 0;
-        while index < 15 {
+        while index < CONSISTENCY_COUNT {
             let value = values[index];
             if !value.is_zero() {
                 break 'rows Found::Nonzero(1, row, index, value);
@@ -86,7 +90,7 @@ pub fn transition(table: &[u64], aux: &[u64], challenges: &[u64]) -> Found
         }
         let values = check_pairs::transition_constraints(weights, row, row_next, sum, sum_next);
         let mut index = 0;
-        while index < 22 {
+        while index < TRANSITION_COUNT {
             let value = values[index];
             if !value.is_zero() {
                 break 'pairs Found::Nonzero(2, upper, index, value);
@@ -106,7 +110,7 @@ pub fn terminal(table: &[u64]) -> Found
     let values = check_rows::terminal_constraints(MainRow::at(table, last));
     let mut index = 0;
     'indices: loop {
-        if index == 2 {
+        if index == TERMINAL_COUNT {
             break 'indices Found::Nothing;
         }
         let value = values[index];

@@ -8,9 +8,9 @@ use Rattle.words.specs.declared.Judgement.{Judgement}
 use Rattle.words.specs.declared.Judgement.the-variants.{Fine, Declined}
 use Rattle.xfield.specs.XFieldElements.{extOf}
 use Rattle.xfield.specs.declared.XFieldElement.{XFieldElement}
-use Rattle.air.specs.Check.{nonzero, judgeCheck, checkAll}
+use Rattle.air.specs.Check.{nonzero, checkReason, checkAll}
 use Rattle.air.proofs.Judging.{accepted}
-use Rattle.air.proofs.Groups.{firstInGroups, group-next, groups-are-all}
+use Rattle.check_table.proofs.Groups.{firstInGroups, group-next, groups-are-all}
 use Rattle.check_search.specs.declared.Found.{Found}
 use Rattle.check_search.specs.declared.Found.the-variants.{Nothing, Nonzero}
 use Rattle.check_search.specs.Finds.{followedBy}
@@ -18,7 +18,7 @@ use Rattle.check_table.specs.declared.Verdict.the-variants.{Refused}
 use Rattle.check_table.specs.Verdicts.{verdictAnswer}
 use Rattle.check_table.specs.Groups.{searchGroup}
 
-module _ (table aux challenges : List ℕ) {j : Judgement} (judged : j ≡ judgeCheck table aux challenges) where
+module _ (table aux challenges : List ℕ) {j : Judgement} (judged : j ≡ checkReason table aux challenges) where
   pub refused : {reason : Refusal} → j ≡ Declined reason → verdictAnswer (Refused reason) ≡ checkAll table aux challenges
   unfolding checkAll
   refused e = rw (sym judged ∙ e)

@@ -3,29 +3,29 @@
 use Prim.Native.Nat.{ℕ, _<_}
 use mathlib.Core.Path.{_≡_}
 use mathlib.Core.Logic.{_↔_}
-use mathlib.Core.List.{List, []}
-use Rattle.words.specs.Answers.{Answer, done, declined}
+use mathlib.Core.List.{List}
+use Rattle.words.specs.Answers.{Answer, declined}
 use Rattle.xfield.specs.XFieldElements.{extOf}
 use Rattle.words.specs.declared.Judgement.the-variants.{Fine}
-use Rattle.air.specs.Columns.{rowAt, rowCount}
-use Rattle.air.specs.RunningSum.{lookupSum}
-use Rattle.air.specs.Check.{nonzero, judgeCheck, ConstraintsHold}
+use Rattle.table.specs.Columns.{rowAt, rowCount}
+use Rattle.sums.specs.LookupSum.{lookupSum}
+use Rattle.air.specs.Check.{zeroAnswer, nonzero, checkReason, ConstraintsHold}
 use Rattle.air.specs.Claim.{RowTells, DenominatorsNotZero, lastSum}
 use Rattle.check_table.specs.declared.Verdict.{Verdict}
 use Rattle.check_table.specs.declared.Verdict.the-variants.{Zero, Nonzero, Refused}
 
 abbrev pub verdictAnswer : Verdict → Answer
-verdictAnswer Zero = done []
+verdictAnswer Zero = zeroAnswer
 verdictAnswer (Nonzero group row index value) = nonzero group row index (extOf value)
 verdictAnswer (Refused reason) = declined reason
 
 -- ---- what it means that the check answers zero (demand 3)
 abbrev pub AnswersZero : Verdict → Type 0
-AnswersZero r = verdictAnswer r ≡ done []
+AnswersZero r = verdictAnswer r ≡ zeroAnswer
 
 -- it does exactly where it refuses nothing and every constraint is zero
 abbrev pub ZeroIff : List ℕ → List ℕ → List ℕ → Verdict → Type 0
-ZeroIff table aux challenges r = AnswersZero r ↔ ((judgeCheck table aux challenges ≡ Fine) × ConstraintsHold table aux challenges)
+ZeroIff table aux challenges r = AnswersZero r ↔ ((checkReason table aux challenges ≡ Fine) × ConstraintsHold table aux challenges)
 
 -- then each CopyFlag 1 row tells the truth
 abbrev pub Sound : List ℕ → Verdict → Type 0

@@ -1,14 +1,11 @@
 // The check of a table: the first constraint that is not zero.
 ghost use mathlib.Core.Path.{_≡_};
-ghost use mathlib.Core.Bool.{not, _&&_};
 ghost use Prim.Native.Nat.{_*_, _≤_, _<_};
 ghost use lib.ListN.{length};
 ghost use Rattle.words.specs.Answers.{Answer};
-ghost use Rattle.words.specs.Refusals.{declineIf, orElse};
-ghost use Rattle.words.specs.declared.Refusal.the-variants.{Shape, Short, Unreduced};
-ghost use Rattle.air.specs.Columns.{auxWidth, rowCount};
-ghost use Rattle.air.specs.Challenges.{challengeWords};
-ghost use Rattle.air.specs.Check.{judgeCheck, checkAll};
+ghost use Rattle.table.specs.Columns.{auxWidth, rowCount};
+ghost use Rattle.table.specs.Challenges.{challengeWords};
+ghost use Rattle.air.specs.Check.{checkReason, checkAll};
 ghost use Rattle.check_search.specs.Finds.{followedBy};
 ghost use Rattle.check_table.specs.Verdicts.{verdictAnswer, ZeroIff, Sound, Sums};
 ghost use Rattle.check_table.specs.Groups.{searchGroup};
@@ -18,6 +15,7 @@ use words::Judgement;
 use words::Refusal;
 use xfield::XFieldElement;
 
+// What the check answers.
 pub enum Verdict {
     Zero,
     // Group 0 to 3, (upper) row, index from 0, and the value there.
@@ -26,39 +24,27 @@ pub enum Verdict {
 }
 
 // ---- refusals
-// The first of the reasons 1, 7 and 8.
-fn first_reason(shapes: bool, no_rows: bool, reduced: bool, aux_reduced: bool) -> Judgement
-    ensures { λ r. ⌜ r ≡ orElse (declineIf (not shapes) Shape) (orElse (declineIf «no_rows» Short) (declineIf (not (reduced && «aux_reduced»)) Unreduced)) ⌝ }
+// Reasons 1, 7 and 8, in this order; no word is read where 1 or 7 is met.
+fn judge(table: &[u64], aux: &[u64], challenges: &[u64]) -> Judgement
+    ensures { λ r. ⌜ r ≡ checkReason (now (table .entry)) (now (aux .entry)) (now (challenges .entry)) ⌝ }
 {
-    if !shapes {
+    if !table::have_shapes(table, aux, challenges) {
         return Judgement::Declined(Refusal::Shape);
     }
-    if no_rows {
+    if table.len() / MainRow::WIDTH == 0 {
         return Judgement::Declined(Refusal::Short);
     }
-    if !reduced {
+    if !table::are_reduced(table, challenges) {
         return Judgement::Declined(Refusal::Unreduced);
     }
-    if !aux_reduced {
+    if !table::all_reduced(aux) {
         return Judgement::Declined(Refusal::Unreduced);
     }
     Judgement::Fine
 }
 
-fn judge(table: &[u64], aux: &[u64], challenges: &[u64]) -> Judgement
-    ensures { λ r. ⌜ r ≡ judgeCheck (now (table .entry)) (now (aux .entry)) (now (challenges .entry)) ⌝ }
-{
-    let shapes = table::have_shapes(table, aux, challenges);
-    let no_rows = table.len() / MainRow::WIDTH == 0;
-    first_reason(
-        shapes,
-        no_rows,
-        table::are_reduced(table, challenges),
-        table::all_reduced(aux),
-    )
-}
-
 // ---- the search, group by group
+// The first constraint of the group, 0 to 3, that is not zero.
 fn search_group(group: u64, table: &[u64], aux: &[u64], challenges: &[u64]) -> Found
     requires { ⌜ (group < 4) × ((0 < rowCount (now table)) × ((auxWidth * rowCount (now table) ≤ length (now aux)) × (challengeWords ≤ length (now challenges)))) ⌝ }
     ensures { λ r. ⌜ ((next : Answer) → followedBy r next ≡ searchGroup (now (table .entry)) (now (aux .entry)) (now (challenges .entry)) group next) ⌝ }
@@ -71,6 +57,9 @@ fn search_group(group: u64, table: &[u64], aux: &[u64], challenges: &[u64]) -> F
     }
 }
 
+// Evaluates the constraints group by group: initial on row 0, consistency row by row, transition pair by pair, terminal on the last row. The
+// answer is the first value that is not zero, with its group, (upper) row and index, or zero. It refuses wrong shapes, a table without rows,
+// and a word p or more in the table, the aux words or the challenges. Nothing lent is changed.
 pub fn check(table: &[u64], aux: &[u64], challenges: &[u64]) -> Verdict
     ensures exact { λ r. ⌜ verdictAnswer r ≡ checkAll (now (table .entry)) (now (aux .entry)) (now (challenges .entry)) ⌝ }
     ensures zero_iff { λ r. ⌜ ZeroIff (now (table .entry)) (now (aux .entry)) (now (challenges .entry)) r ⌝ }

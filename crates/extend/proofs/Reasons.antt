@@ -8,24 +8,28 @@ use mathlib.Core.Bool.{Bool, true, false, _&&_, and-eq-true-iff}
 use mathlib.Core.List.{List}
 use native.Mathlib.Omega.{arith}
 use Rattle.words.specs.Answers.{done, declined}
+use Rattle.words.specs.Outcomes.{Outcome, outcome, Leaves}
 use Rattle.words.specs.declared.Judgement.{Judgement}
 use Rattle.words.specs.declared.Refusal.{Refusal}
 use Rattle.words.specs.declared.Refusal.the-variants.{Shape, Unreduced, Flat}
 use Rattle.words.specs.declared.Judgement.the-variants.{Fine, Declined}
 use Rattle.words.proofs.Judgements.{or-both, decline-not-fine}
+use Rattle.words.proofs.Outcomes.{outcome-declined, leaves-done, leaves-declined}
 use Rattle.xfield.specs.Extension.{Ext}
 use Rattle.xfield.specs.declared.XFieldElement.{XFieldElement}
 use Rattle.xfield.specs.XFieldElements.{extOf}
-use Rattle.air.specs.Columns.{rowCount, tableShape, auxShape, allReduced}
-use Rattle.air.specs.Challenges.{challengesShape}
-use Rattle.air.specs.RunningSum.{denominatorsOk, ZeroDenominator, summandAt, lookupSum}
-use Rattle.air.proofs.Rows.{Shaped, shaped}
-use Rattle.air.proofs.ZeroDenominators as Denominators
-use Rattle.fill.specs.Extending.{extendReason, elementWords, sumWords, extendedAs, extendAll}
-use Rattle.extend.specs.Extensions.{IsExtended}
+use Rattle.table.specs.Columns.{rowCount, tableShape, auxShape, allReduced}
+use Rattle.table.specs.Challenges.{challengesShape}
+use Rattle.sums.specs.RunningSum.{denominatorsOk, ZeroDenominator}
+use Rattle.sums.specs.LookupSum.{summandAt, lookupSum}
+use Rattle.table.proofs.Rows.{Shaped, shaped}
+use Rattle.sums.proofs.ZeroDenominators as Denominators
+use Rattle.sums.specs.RunningSum.{elementWords, sumWords}
+use Rattle.fill.specs.Extending.{extendReason, extendAll}
+use Rattle.extend.specs.Extensions.{extendedAnswer}
 use Rattle.extend.specs.Flat.{OnlyFlat, FlatExactly}
-use Rattle.extend.specs.declared.Extended.the-variants.{Sum, Refused}
-use Rattle.extend.proofs.Sums.{summand-reduced}
+use Rattle.extend.specs.declared.Extended.the-variants.{Sum}
+use Rattle.sums.proofs.LookupSums.{summand-reduced}
 
 module _ (table aux challenges : List ℕ) where
   abbrev shape : Bool
@@ -76,30 +80,34 @@ module _ (table aux challenges : List ℕ) where
 
   -- ---- answers and aux words
   pub extended-refused : {reason : Refusal}
-      → extendReason table aux challenges ≡ Declined reason → IsExtended (extendAll table aux challenges) (Refused reason) aux
+      → extendReason table aux challenges ≡ Declined reason → Leaves (extendAll table aux challenges) (declined reason) aux
   unfolding extendAll
-  extended-refused e = rw e (record { answer = refl; aux = refl })
+  extended-refused e = leaves-declined _ _ _ e
 
   pub extended : {sum : XFieldElement} {after : List ℕ}
       → extendReason table aux challenges ≡ Fine → extOf sum ≡ lookupSum table challenges
-      → after ≡ sumWords (summandAt table challenges) (rowCount table) → IsExtended (extendAll table aux challenges) (Sum sum) after
+      → after ≡ sumWords (summandAt table challenges) (rowCount table) → Leaves (extendAll table aux challenges) (extendedAnswer (Sum sum)) after
   unfolding extendAll
-  extended e s w = rw e (record { answer = ap (λ (x : Ext). done (elementWords x)) s; aux = w })
+  extended e s w = leaves-done _ _ _ e (ap (λ (x : Ext). done (elementWords x)) s) w
 
   -- ---- 9: each of the other ways through the tests has another number
   pub flat-exactly : FlatExactly table aux challenges
   unfolding extendAll
   flat-exactly = (
     told shape refl reduced refl none-zero refl,
-    λ o. ap (λ reason. extendedAs reason table aux challenges .answer) (flat (o .shapes) (o .reduced) (exactly .1 (o .zero-denominator))),
+    λ o. ap (λ due. due .answer) (outcome-declined _ aux _ (flat (o .shapes) (o .reduced) (exactly .1 (o .zero-denominator)))),
   )
     where
       exactly : (none-zero ≡ false) ↔ ZeroDenominator (summandAt table challenges) (rowCount table)
       exactly = Denominators.flat-exactly (summandAt table challenges) (rowCount table) (summand-reduced table challenges)
 
+      due : Judgement → Outcome (List ℕ)
+      due reason =
+          outcome reason (elementWords (lookupSum table challenges)) aux (sumWords (summandAt table challenges) (rowCount table))
+
       other : {reason : Judgement} → extendReason table aux challenges ≡ reason
-          → extendAll table aux challenges .answer ≡ declined Flat → extendedAs reason table aux challenges .answer .number ≡ 9
-      other r e = ap (λ reason. extendedAs reason table aux challenges .answer .number) (sym r) ∙ ap (λ a. a .number) e
+          → extendAll table aux challenges .answer ≡ declined Flat → due reason .answer .number ≡ 9
+      other r e = ap (λ reason. due reason .answer .number) (sym r) ∙ ap (λ a. a .number) e
 
       told : (s : Bool) → shape ≡ s → (r : Bool) → reduced ≡ r → (d : Bool) → none-zero ≡ d
           → extendAll table aux challenges .answer ≡ declined Flat → OnlyFlat table aux challenges

@@ -6,9 +6,10 @@ use mathlib.Core.Bool.{true, _&&_}
 use mathlib.Core.List.{List}
 use Rattle.words.specs.Answers.{declined}
 use Rattle.words.specs.declared.Refusal.the-variants.{Flat}
-use Rattle.air.specs.Columns.{rowCount, tableShape, auxShape, allReduced}
-use Rattle.air.specs.Challenges.{challengesShape}
-use Rattle.air.specs.RunningSum.{ZeroDenominator, summandAt}
+use Rattle.table.specs.Columns.{rowCount, tableShape, auxShape, allReduced}
+use Rattle.table.specs.Challenges.{challengesShape}
+use Rattle.sums.specs.RunningSum.{ZeroDenominator}
+use Rattle.sums.specs.LookupSum.{summandAt}
 use Rattle.fill.specs.Extending.{extendAll}
 
 -- 1 and 8 are not met, and some CopyFlag 1 row's denominator is zero

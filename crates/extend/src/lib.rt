@@ -5,14 +5,18 @@ ghost use mathlib.Core.Bool.{true};
 ghost use Prim.Native.Nat.{_+_, _*_, _≤_};
 ghost use lib.ListN.{length};
 ghost use lib.Seq.{sets};
+ghost use Rattle.words.specs.Outcomes.{Leaves};
 ghost use Rattle.xfield.specs.XFieldElements.{extOf};
-ghost use Rattle.xfield.proofs.Inverses.{invX};
-ghost use Rattle.air.specs.Columns.{mainWidth, auxWidth, rowAt, rowCount, allReduced};
-ghost use Rattle.air.specs.Challenges.{challengeWords, rowDenominator};
-ghost use Rattle.air.specs.RunningSum.{addSummand, denominatorOk, denominatorsOk, summandAt, lookupSum};
+ghost use Rattle.xfield.specs.Inverses.{invX};
+ghost use Rattle.table.specs.Columns.{mainWidth, auxWidth, rowAt, rowCount, allReduced};
+ghost use Rattle.table.specs.Challenges.{challengeWords, rowDenominator};
+ghost use Rattle.sums.specs.RunningSum.{addSummand, denominatorOk, denominatorsOk};
+ghost use Rattle.sums.specs.LookupSum.{summandAt, lookupSum};
 ghost use Rattle.table.specs.Layouts.{rowOf, challengesIn};
-ghost use Rattle.fill.specs.Extending.{extendReason, elementWords, sumWords, extendAll};
-ghost use Rattle.extend.specs.Extensions.{summandOf, IsExtended};
+ghost use Rattle.sums.specs.RunningSum.{elementWords, sumWords};
+ghost use Rattle.fill.specs.Extending.{extendReason, extendAll};
+ghost use Rattle.sums.specs.LookupSum.{summandOf};
+ghost use Rattle.extend.specs.Extensions.{extendedAnswer};
 use table::AuxRow;
 use table::Challenges;
 use table::MainRow;
@@ -26,6 +30,7 @@ pub enum Extended {
     Refused(Refusal),
 }
 
+// The denominator of a row.
 fn denominator_of(row: MainRow, challenges: Challenges) -> XFieldElement
     ensures { λ r. ⌜ extOf r ≡ rowDenominator (challengesIn challenges) (rowOf row) ⌝ }
 {
@@ -87,24 +92,20 @@ fn are_rows_fine(table: &[u64], challenges: &[u64]) -> bool
     true
 }
 
-// Reasons 1, 8 and 9, in this order. Old aux words are not looked at. Where one pass finds nothing against the rows, there is none; else each
-// reason is asked for.
+// Reasons 1, 8 and 9, in this order; no word is read where the shapes are wrong, and old aux words never. Where one pass finds nothing against
+// the rows, there is none; else each reason is asked for.
 fn judge(table: &[u64], aux: &[u64], challenges: &[u64]) -> Judgement
     ensures { λ r. ⌜ r ≡ extendReason (now (table .entry)) (now (aux .entry)) (now (challenges .entry)) ⌝ }
 {
-    let shapes = table::have_shapes(table, aux, challenges);
-    if shapes {
-        if table::all_reduced(challenges) {
-            if are_rows_fine(table, challenges) {
-                return Judgement::Fine;
-            }
-        }
-    }
-    let reduced = table::are_reduced(table, challenges);
-    if !shapes {
+    if !table::have_shapes(table, aux, challenges) {
         return Judgement::Declined(Refusal::Shape);
     }
-    if !reduced {
+    if table::all_reduced(challenges) {
+        if are_rows_fine(table, challenges) {
+            return Judgement::Fine;
+        }
+    }
+    if !table::are_reduced(table, challenges) {
         return Judgement::Declined(Refusal::Unreduced);
     }
     if !denominators_ok(table, challenges) {
@@ -156,9 +157,10 @@ fn write_sums(table: &[u64], aux: &mut [u64], challenges: &[u64]) -> XFieldEleme
     sum
 }
 
-// Each row's aux words become the sum so far, and the answer is the last sum, zero for no rows.
+// Each row's aux words become the sum so far, and the answer is the last sum, zero for no rows. It refuses wrong shapes, a word p or more in
+// the table or the challenges, and a denominator of zero in a CopyFlag 1 row.
 pub fn extend(table: &[u64], aux: &mut [u64], challenges: &[u64]) -> Extended
-    ensures { λ r. ⌜ IsExtended (extendAll (now (table .entry)) (now (aux .entry)) (now (challenges .entry))) r (now (aux .exit)) ⌝ }
+    ensures { λ r. ⌜ Leaves (extendAll (now (table .entry)) (now (aux .entry)) (now (challenges .entry))) (extendedAnswer r) (now (aux .exit)) ⌝ }
 {
     match judge(table, aux, challenges) {
         Judgement::Declined(reason) => Extended::Refused(reason),

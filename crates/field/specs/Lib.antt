@@ -1,3 +1,4 @@
 pub mod Elements
 pub mod Primes
+pub mod Tables
 pub mod SmallInverses

@@ -1,5 +1,5 @@
-// Base elements: numbers modulo p = 2^64 - 2^32 + 1. Every function here takes any 64-bit content and answers below p; each
-// contract is one equation, to the operation's definition in specs/Elements.antt, with a condition where a table or an inverse is handed in.
+// Base elements: numbers modulo p = 2^64 - 2^32 + 1. Every operation takes any 64-bit content and answers below p; its contract is one
+// equation, to its definition in specs/Elements.antt. The two that are handed a table or an inverse require that it is the right one.
 ghost use mathlib.Core.Path.{_≡_};
 ghost use Prim.Native.Nat.{_+_, _*_, _/_, _%_, _^_};
 ghost use Rattle.field.specs.Elements.{p, addF, subF, negF, mulF, invF, isZeroF, equalF};
@@ -434,7 +434,8 @@ impl BFieldElement {
     // The same as `inverse_or_zero`, given the table of small inverses: Euclid's algorithm down to a remainder below 256, whose inverse the
     // table has.
     pub fn inverse_by_table(self, small: &[u64; 256]) -> Self
-        ensures { λ r. ⌜ (now (small .entry) ≡ smallInverses → r .0 ≡ invF (self .0)) ⌝ }
+        requires { ⌜ now small ≡ smallInverses ⌝ }
+        ensures { λ r. ⌜ r .0 ≡ invF (self .0) ⌝ }
     {
         let a = self.value();
         if a == 0 {
@@ -462,7 +463,8 @@ impl BFieldElement {
 
     // The inverse of half of x, rounded down, from that of x: twice it where x is even. `small` is the table of small inverses.
     pub fn inverse_of_half(x: u64, inverse: Self, small: &[u64; 256]) -> Self
-        ensures { λ r. ⌜ (now (small .entry) ≡ smallInverses → inverse .0 ≡ invF x → r .0 ≡ invF (x / 2)) ⌝ }
+        requires { ⌜ (inverse .0 ≡ invF x) × (now small ≡ smallInverses) ⌝ }
+        ensures { λ r. ⌜ r .0 ≡ invF (x / 2) ⌝ }
     {
         if x % 2 == 0 {
             inverse.add(inverse)

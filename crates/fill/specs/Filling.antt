@@ -1,40 +1,30 @@
--- Filling (document 01, under that heading): the sections of a list, joined, and the table after `fill`.
+-- Filling (document 01, under that heading): the sections of a list, joined, and what `fill` answers and leaves.
 use Prim.Native.Nat.{ℕ}
-use mathlib.Core.Path.{_≡_}
 use mathlib.Core.Bool.{not}
 use mathlib.Core.List.{List, [], _∷_, _++_}
 use lib.Dec.{ltb}
 use lib.Seq.{sets}
 use Rattle.words.specs.Answers.{Answer, done, declined}
+use Rattle.words.specs.Outcomes.{Outcome, outcome}
 use Rattle.words.specs.Refusals.{declineIf, orElse}
 use Rattle.words.specs.declared.Judgement.{Judgement}
-use Rattle.words.specs.declared.Judgement.the-variants.{Fine, Declined}
-use Rattle.words.specs.declared.Refusal.the-variants.{Shape, Stranger, Short}
+use Rattle.words.specs.declared.Refusal.the-variants.{Shape, Short}
 use Rattle.list.specs.Lists.{U32List, entryAt, multiplicityAt, judgeList}
 use Rattle.list.specs.Heights.{sectionPlaces, listHeight}
-use Rattle.air.specs.Columns.{Row, rowCount, tableShape}
-use Rattle.fill_sections.specs.Sections.{Section, rows, noSection, section, tableWords}
+use Rattle.table.specs.Columns.{Row, rowCount, tableShape}
+use Rattle.table.specs.RowWords.{tableWords}
+use Rattle.fill_sections.specs.Sections.{section, rowsOf}
 use Rattle.fill.specs.declared.Filled.{Filled}
 use Rattle.fill.specs.declared.Filled.the-variants.{Rows, Refused}
 
--- "Sections follow list order": joined, for the places that get one
-pub data Sections : Type 0 where
-  joined : List Row → Sections
-  noSections : Sections
+-- "Sections follow list order", joined: the rows of the sections of these places. Every entry of a list that is judged fine has a section
+-- (proofs/ListSections.antt: section-at), so as many rows as the height says (rows-height)
+unfoldable pub sectionsAt : U32List → List ℕ → List Row
+sectionsAt l [] = []
+sectionsAt l (i ∷ is) = rowsOf (section (entryAt l i) (multiplicityAt l i)) ++ sectionsAt l is
 
-abbrev pub join : Section → Sections → Sections
-join (rows first more) (joined others) = joined (first ∷ more ++ others)
-join (rows first more) noSections = noSections
-join noSection others = noSections
-
-unfoldable pub sectionsAt : U32List → List ℕ → Sections
-sectionsAt l [] = joined []
-sectionsAt l (i ∷ is) = join (section (entryAt l i) (multiplicityAt l i)) (sectionsAt l is)
-
--- a table after a call, and the call's answer
-pub record TableAfter : Type 0 where
-  pub answer : Answer
-  pub table : List ℕ
+abbrev pub sections : U32List → List Row
+sections l = sectionsAt l (sectionPlaces l)
 
 -- "Fill .. 1, then 2 to 5 entry by entry, then (fill) 7": 1 also for the table, 7 is "table below the height"
 unfoldable pub fillReason : U32List → List ℕ → Judgement
@@ -42,21 +32,15 @@ fillReason l table =
     orElse (declineIf (not (tableShape table)) Shape)
     (orElse (judgeList l) (declineIf (ltb (rowCount table) (listHeight l)) Short))
 
--- "Rows past the height keep their words; the answer is the height."
-abbrev pub filledAs : Judgement → Sections → ℕ → List ℕ → TableAfter
-filledAs Fine (joined rs) height table = record { answer = done (height ∷ []); table = sets table 0 (tableWords rs) }
-filledAs Fine noSections height table = record { answer = declined Stranger; table = table }
-filledAs (Declined reason) sections height table = record { answer = declined reason; table = table }
+-- "Rows past the height keep their words"
+abbrev pub filled : U32List → List ℕ → List ℕ
+filled l table = sets table 0 (tableWords (sections l))
 
-unfoldable pub fillAll : U32List → List ℕ → TableAfter
-fillAll l table = filledAs (fillReason l table) (sectionsAt l (sectionPlaces l)) (listHeight l) table
+-- ".. the answer is the height."
+unfoldable pub fillAll : U32List → List ℕ → Outcome (List ℕ)
+fillAll l table = outcome (fillReason l table) (listHeight l ∷ []) table (filled l table)
 
 -- what the answer of `fill` means
 abbrev pub filledAnswer : Filled → Answer
 filledAnswer (Rows height) = done (height ∷ [])
 filledAnswer (Refused reason) = declined reason
-
--- the answer and the table afterwards are those that are due
-pub record IsFilled (due : TableAfter) (r : Filled) (after : List ℕ) : Type 0 where
-  pub answer : filledAnswer r ≡ due .answer
-  pub table : after ≡ due .table

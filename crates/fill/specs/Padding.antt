@@ -1,23 +1,19 @@
 -- Padding (document 01, under that heading): "Every row from the filled count on becomes: all 0, BitsMinus33Inv for Bits 0, and CI,
 -- LHS, LhsInv, Result of the last filled row, but Result 2 if that CI is lt. With none filled, CI is 4."
 use Prim.Native.Nat.{ℕ, zero, suc, _-_, _*_}
-use mathlib.Core.Path.{_≡_}
 use mathlib.Core.Bool.{cond, not}
 use mathlib.Core.List.{List, []}
 use lib.Dec.{eqb, ltb}
 use lib.ListN.{replicate}
 use lib.Seq.{sets}
-use Rattle.words.specs.Answers.{Answer, done, declined}
+use Rattle.words.specs.Outcomes.{Outcome, outcome}
 use Rattle.words.specs.Refusals.{declineIf, orElse}
 use Rattle.words.specs.declared.Judgement.{Judgement}
-use Rattle.words.specs.declared.Judgement.the-variants.{Fine, Declined}
 use Rattle.words.specs.declared.Refusal.the-variants.{Shape, Short, Unreduced}
 use Rattle.isa.specs.Opcodes.{opSplit, opLt}
-use Rattle.air.specs.Columns.{Row, mainWidth, rowAt, rowCount, tableShape, allReduced}
-use Rattle.fill_sections.specs.Sections.{bitsMinus33Inverse, rowWords, tableWords}
-use Rattle.fill.specs.Filling.{TableAfter}
-use Rattle.fill.specs.declared.Padded.{Padded}
-use Rattle.fill.specs.declared.Padded.the-variants.{Done, Refused}
+use Rattle.table.specs.Columns.{Row, mainWidth, rowAt, rowCount, tableShape, allReduced}
+use Rattle.table.specs.RowWords.{rowWords, tableWords}
+use Rattle.fill_sections.specs.Sections.{bitsMinus33Inverse}
 
 -- the padding row after a last filled row
 unfoldable pub paddingRow : Row → Row
@@ -60,23 +56,11 @@ padReason table filled =
     (orElse (declineIf (ltb (rowCount table) filled) Short)
     (declineIf (not (allReduced (rowWords (lastFilled table filled)))) Unreduced))
 
--- "The answer is done"; rows before the filled count keep their words
-abbrev pub paddedAs : Judgement → List ℕ → ℕ → TableAfter
-paddedAs Fine table filled = record {
-  answer = done [];
-  table = sets table (mainWidth * filled) (tableWords (replicate (rowCount table - filled) (paddingRow (lastFilled table filled))));
-}
-paddedAs (Declined reason) table filled = record { answer = declined reason; table = table }
+-- rows before the filled count keep their words
+abbrev pub padded : List ℕ → ℕ → List ℕ
+padded table filled =
+    sets table (mainWidth * filled) (tableWords (replicate (rowCount table - filled) (paddingRow (lastFilled table filled))))
 
-unfoldable pub padAll : List ℕ → ℕ → TableAfter
-padAll table filled = paddedAs (padReason table filled) table filled
-
--- what the answer of `pad` means
-abbrev pub paddedAnswer : Padded → Answer
-paddedAnswer Done = done []
-paddedAnswer (Refused reason) = declined reason
-
--- the answer and the table afterwards are those that are due
-pub record IsPadded (due : TableAfter) (r : Padded) (after : List ℕ) : Type 0 where
-  pub answer : paddedAnswer r ≡ due .answer
-  pub table : after ≡ due .table
+-- "The answer is done."
+unfoldable pub padAll : List ℕ → ℕ → Outcome (List ℕ)
+padAll table filled = outcome (padReason table filled) [] table (padded table filled)

@@ -1,22 +1,22 @@
 // Filling and padding the U32 table.
 ghost use mathlib.Core.Path.{_≡_};
-ghost use mathlib.Core.List.{List};
 ghost use Prim.Native.Nat.{_*_, _≤_};
 ghost use lib.ListN.{length};
-ghost use lib.Seq.{sets};
+ghost use Rattle.words.specs.Outcomes.{Leaves, completedAnswer};
 ghost use Rattle.words.specs.declared.Judgement.the-variants.{Fine};
 ghost use Rattle.list.specs.Lists.{u32List, judgeList};
-ghost use Rattle.list.specs.Heights.{sectionPlaces, listHeight};
-ghost use Rattle.air.specs.Columns.{Row};
-ghost use Rattle.fill_sections.specs.Sections.{rowWords, tableWords};
-ghost use Rattle.fill.specs.Filling.{sectionsAt, joined, fillAll, IsFilled};
-ghost use Rattle.fill.specs.Padding.{lastFilled, paddingRow, padAll, IsPadded};
+ghost use Rattle.list.specs.Heights.{listHeight};
+ghost use Rattle.table.specs.Columns.{mainWidth};
+ghost use Rattle.table.specs.Layouts.{rowOf};
+ghost use Rattle.fill.specs.Filling.{filled, fillAll, filledAnswer};
+ghost use Rattle.fill.specs.Padding.{lastFilled, paddingRow, padAll};
 use field::BFieldElement;
 use fill_results::Choice;
 use isa::Admission;
 use list::Judged;
 use list::Sizes;
 use table::MainRow;
+use words::Completed;
 use words::Refusal;
 
 // What `fill` answers: the height, or why it declines.
@@ -25,19 +25,13 @@ pub enum Filled {
     Refused(Refusal),
 }
 
-// What `pad` answers.
-pub enum Padded {
-    Done,
-    Refused(Refusal),
-}
-
 // Fills the sections of a list that is judged fine, one after the other from row 0 on, and answers how many rows they have. Neither refusal
 // is reached: every entry was admitted, and its opcode is one of the six.
 fn fill_sections(sizes: Sizes, keys: &[u64], multiplicities: &[u64], table: &mut [u64]) -> Filled
     requires { ⌜ judgeList (u32List sizes (now keys) (now multiplicities)) ≡ Fine ⌝ }
-    requires { ⌜ 10 * listHeight (u32List sizes (now keys) (now multiplicities)) ≤ length (now table) ⌝ }
+    requires { ⌜ mainWidth * listHeight (u32List sizes (now keys) (now multiplicities)) ≤ length (now table) ⌝ }
     ensures { λ r. ⌜ r ≡ Filled.Rows (listHeight (u32List sizes (now (keys .entry)) (now (multiplicities .entry)))) ⌝ }
-    ensures { λ _. ⌜ ((rs : List Row) → sectionsAt (u32List sizes (now (keys .entry)) (now (multiplicities .entry))) (sectionPlaces (u32List sizes (now (keys .entry)) (now (multiplicities .entry)))) ≡ joined rs → now (table .exit) ≡ sets (now (table .entry)) 0 (tableWords rs)) ⌝ }
+    ensures { λ _. ⌜ now (table .exit) ≡ filled (u32List sizes (now (keys .entry)) (now (multiplicities .entry))) (now (table .entry)) ⌝ }
 {
     let inverses = fill_sections::bits_minus_33_inverses();
     let small = BFieldElement::small_inverses();
@@ -65,9 +59,10 @@ fn fill_sections(sizes: Sizes, keys: &[u64], multiplicities: &[u64], table: &mut
     Filled::Rows(row as u64)
 }
 
-// Fills the sections of the list's entries, in list order, from row 0 on. The answer is the height; later rows keep their words.
+// Fills the sections of the list's entries, in list order, from row 0 on. The answer is the height; later rows keep their words. It refuses
+// a table or list of the wrong shape, an entry that is not admitted or counted too often, and a table with fewer rows than the height.
 pub fn fill(sizes: Sizes, keys: &[u64], multiplicities: &[u64], table: &mut [u64]) -> Filled
-    ensures { λ r. ⌜ IsFilled (fillAll (u32List sizes (now (keys .entry)) (now (multiplicities .entry))) (now (table .entry))) r (now (table .exit)) ⌝ }
+    ensures { λ r. ⌜ Leaves (fillAll (u32List sizes (now (keys .entry)) (now (multiplicities .entry))) (now (table .entry))) (filledAnswer r) (now (table .exit)) ⌝ }
 {
     if !MainRow::has_shape(table) {
         return Filled::Refused(Refusal::Shape);
@@ -75,7 +70,7 @@ pub fn fill(sizes: Sizes, keys: &[u64], multiplicities: &[u64], table: &mut [u64
     match list::judge_list(sizes, keys, multiplicities) {
         Judged::Refused(reason) => Filled::Refused(reason),
         Judged::Height(height) => {
-            if ((table.len() / 10) as u64) < height {
+            if ((table.len() / MainRow::WIDTH) as u64) < height {
                 return Filled::Refused(Refusal::Short);
             }
             fill_sections(sizes, keys, multiplicities, table)
@@ -83,69 +78,69 @@ pub fn fill(sizes: Sizes, keys: &[u64], multiplicities: &[u64], table: &mut [u64
     }
 }
 
-// The words of the last filled row; with none filled, a row of zeros with CI split.
-fn last_filled(table: &[u64], filled: usize) -> [u64; 10]
-    requires { ⌜ 10 * filled ≤ length (now table) ⌝ }
-    ensures { λ r. ⌜ r ≡ rowWords (lastFilled (now (table .entry)) filled) ⌝ }
+// The last filled row; with none filled, a row of zeros with CI split.
+fn last_filled(table: &[u64], filled: usize) -> MainRow
+    requires { ⌜ mainWidth * filled ≤ length (now table) ⌝ }
+    ensures { λ r. ⌜ rowOf r ≡ lastFilled (now (table .entry)) filled ⌝ }
 {
     if filled == 0 {
-        return [0, 0, 0, isa::SPLIT, 0, 0, 0, 0, 0, 0];
+        return MainRow {
+            copy_flag: BFieldElement(0),
+            bits: BFieldElement(0),
+            bits_minus_33_inv: BFieldElement(0),
+            ci: BFieldElement(isa::SPLIT),
+            lhs: BFieldElement(0),
+            lhs_inv: BFieldElement(0),
+            rhs: BFieldElement(0),
+            rhs_inv: BFieldElement(0),
+            result: BFieldElement(0),
+            lookup_multiplicity: BFieldElement(0),
+        };
     }
-    let at = 10 * (filled - 1);
-    [
-        table[at],
-        table[at + 1],
-        table[at + 2],
-        table[at + 3],
-        table[at + 4],
-        table[at + 5],
-        table[at + 6],
-        table[at + 7],
-        table[at + 8],
-        table[at + 9],
-    ]
+    MainRow::at(table, filled - 1)
 }
 
-// The padding row after a last filled row.
-fn padding_row(last: [u64; 10]) -> [u64; 10]
-    ensures { λ r. ⌜ ((row : Row) → last ≡ rowWords row → r ≡ rowWords (paddingRow row)) ⌝ }
+// The padding row after a last filled row: CI, LHS, LhsInv and Result are kept, but Result is 2 after lt.
+fn padding_row(last: MainRow) -> MainRow
+    ensures { λ r. ⌜ rowOf r ≡ paddingRow (rowOf last) ⌝ }
 {
-    let ci = last[3];
-    let result = if ci == isa::LT { 2 } else { last[8] };
-    [
-        0,
-        0,
-        fill_sections::BITS_MINUS_33_INVERSES[0],
-        ci,
-        last[4],
-        last[5],
-        0,
-        0,
-        result,
-        0,
-    ]
+    let ci = last.ci.0;
+    let result = if ci == isa::LT { 2 } else { last.result.0 };
+    MainRow {
+        copy_flag: BFieldElement(0),
+        bits: BFieldElement(0),
+        bits_minus_33_inv: BFieldElement(fill_sections::BITS_MINUS_33_INVERSES[0]),
+        ci: BFieldElement(ci),
+        lhs: BFieldElement(last.lhs.0),
+        lhs_inv: BFieldElement(last.lhs_inv.0),
+        rhs: BFieldElement(0),
+        rhs_inv: BFieldElement(0),
+        result: BFieldElement(result),
+        lookup_multiplicity: BFieldElement(0),
+    }
 }
 
-// Every row from `filled` on becomes the padding row.
-pub fn pad(table: &mut [u64], filled: usize) -> Padded
-    ensures { λ r. ⌜ IsPadded (padAll (now (table .entry)) filled) r (now (table .exit)) ⌝ }
+// Every row from `filled` on becomes the padding row. It refuses a table of the wrong shape, a filled count above the rows, and a last
+// filled row with a word p or more.
+pub fn pad(table: &mut [u64], filled: usize) -> Completed
+    ensures { λ r. ⌜ Leaves (padAll (now (table .entry)) filled) (completedAnswer r) (now (table .exit)) ⌝ }
 {
     if !MainRow::has_shape(table) {
-        return Padded::Refused(Refusal::Shape);
+        return Completed::Refused(Refusal::Shape);
     }
-    let rows = table.len() / 10;
+    let rows = table.len() / MainRow::WIDTH;
     if rows < filled {
-        return Padded::Refused(Refusal::Short);
+        return Completed::Refused(Refusal::Short);
     }
     let last = last_filled(table, filled);
-    if !table::all_reduced(&last) {
-        return Padded::Refused(Refusal::Unreduced);
+    if !table::all_reduced(&last.words()) {
+        return Completed::Refused(Refusal::Unreduced);
     }
     let padding = padding_row(last);
     let mut row = filled;
     while row < rows {
-        words::put_row(table, 10 * row, padding);
+        padding.put(table, row);
         row += 1;
     }
-    Padded::Done
+    Completed::Done
 }

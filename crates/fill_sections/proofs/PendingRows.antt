@@ -10,14 +10,15 @@ use lib.Seq.{sets}
 use Rattle.words.proofs.Sets.{sets-append, sets-comm}
 use Rattle.isa.specs.Opcodes.{isOpcode}
 use Rattle.isa.specs.Entries.{entry, height}
-use Rattle.air.specs.Columns.{Row}
+use Rattle.table.specs.Columns.{Row, mainWidth}
 use Rattle.fill_results.specs.declared.Choice.{Choice}
 use Rattle.fill_results.specs.declared.Choice.the-variants.{Value, Unknown}
 use Rattle.fill_sections.specs.declared.PendingRow.{PendingRow}
-use Rattle.fill_results.specs.Results.{isEnd, ending, carry}
-use Rattle.fill_sections.specs.Sections.{bitsMinus33Inverse, bitsMinus33Inverses, sectionRow, nextLhs}
-use Rattle.fill_sections.specs.Sections.{Section, rows, noSection, above, aboveSection, topResult, rowWords, tableWords, sectionWords}
-use Rattle.fill_sections.specs.PendingRows.{IsBelow, rowsLeft, sectionOf}
+use Rattle.fill_results.specs.Results.{ending, carry}
+use Rattle.fill_sections.specs.Sections.{bitsMinus33Inverse, bitsMinus33Inverses, Pending, isLast, sectionRow, sectionFrom}
+use Rattle.table.specs.RowWords.{rowWords, tableWords}
+use Rattle.fill_sections.specs.Sections.{Section, rows, noSection, above, aboveSection, topResult, sectionWords}
+use Rattle.fill_sections.specs.PendingRows.{IsBelow, pendingOf, rowsLeft, sectionOf}
 use Rattle.fill_sections.proofs.BitsMinus33.{bits-minus-33}
 use Rattle.fill_sections.proofs.Sections.{end-height, next-height, section-end, section-next, section-unknown}
 use Rattle.fill_results.proofs.Results.{IsValue, value, carry-known}
@@ -31,12 +32,10 @@ pub lent-inverse : (inverses : List ℕ) (bits : ℕ) → inverses ≡ bitsMinus
 lent-inverse inverses bits e h = rw e (bits-minus-33 bits h)
 
 abbrev pub rowAbove : PendingRow → Choice → List Row → Section
-rowAbove row choice below =
-    above (row .«copy_flag») (row .bits) (row .ci) (row .lhs) (row .rhs) (row .multiplicity) choice below
+rowAbove row choice below = above (pendingOf row) choice below
 
 abbrev pub filledRow : PendingRow → ℕ → Row
-filledRow row result =
-    sectionRow (row .«copy_flag») (row .bits) (row .ci) (row .lhs) (row .rhs) result (row .multiplicity)
+filledRow row result = sectionRow (pendingOf row) result
 
 pub one-row : (row : PendingRow) {choice : Choice} (result : ℕ) → choice ≡ Value result
     → rowWords (filledRow row result) ≡ sectionWords (rowAbove row choice [])
@@ -50,7 +49,7 @@ no-row row table at e = rw e
 -- ---- the section of a row, and of the row below
 
 abbrev endOf : PendingRow → Bool
-endOf row = isEnd (row .ci) (row .lhs) (row .rhs)
+endOf row = isLast (pendingOf row)
 
 abbrev carriedTo : PendingRow → ℕ → Choice
 carriedTo row below = carry (row .ci) (row .«copy_flag») (row .bits) (row .lhs) (row .rhs) below
@@ -61,53 +60,51 @@ top-above row Unknown below = refl
 
 last-section : (row : PendingRow) → endOf row ≡ true → sectionOf row ≡ rowAbove row (ending (row .ci) (row .bits)) []
 last-section row e =
-    rw (end-height (row .ci) (row .lhs) (row .rhs) e)
-    (section-end 0 (row .«copy_flag») (row .bits) (row .ci) (row .lhs) (row .rhs) (row .multiplicity) e)
+    rw (end-height (row .ci) (row .lhs) (row .rhs) e) (section-end 0 (pendingOf row) e)
 
 pub left-at-least : (row : PendingRow) → 1 ≤ rowsLeft row
 left-at-least row = height-at-least (entry (row .ci) (row .lhs) (row .rhs))
 
 module _ (row next : PendingRow) (b : IsBelow row next) (e : endOf row ≡ false) where
   pub left-below : rowsLeft row ≡ suc (rowsLeft next)
-  left-below = rw (b .ci, b .lhs, b .rhs) (next-height (row .ci) (row .lhs) (row .rhs) e)
+  left-below =
+      next-height (row .ci) (row .lhs) (row .rhs) e ∙ ap (λ (q : Pending). suc (height (entry (q .ci) (q .lhs) (q .rhs)))) (sym (b .pending))
 
-  section-above : sectionOf row
-      ≡ aboveSection (row .«copy_flag») (row .bits) (row .ci) (row .lhs) (row .rhs) (row .multiplicity) (sectionOf next)
+  section-above : sectionOf row ≡ aboveSection (pendingOf row) (sectionOf next)
   section-above =
-      rw (b .copyFlag, b .bits, b .ci, b .lhs, b .rhs, b .multiplicity, next-height (row .ci) (row .lhs) (row .rhs) e)
-      (section-next (height (entry (row .ci) (nextLhs (row .ci) (row .lhs)) (row .rhs / 2))) (row .«copy_flag») (row .bits) (row .ci)
-      (row .lhs) (row .rhs) (row .multiplicity) e)
+      rw left-below (section-next (rowsLeft next) (pendingOf row) e)
+      ∙ ap (λ (q : Pending). aboveSection (pendingOf row) (sectionFrom (rowsLeft next) q)) (sym (b .pending))
 
 value-known : {c : Choice} → IsValue c → c ≡ Unknown → ⊥
 value-known (value v) e = let z : _≡_ {A = ℕ} 0 1 = cc in omega arith
 
 -- ten words stored above the words below
-row-over : (before between after : List ℕ) (at : ℕ) (row below : List ℕ) → length row ≡ 10
-    → between ≡ sets before (10 * (at + 1)) below → after ≡ sets between (10 * at) row → after ≡ sets before (10 * at) (row ++ below)
+row-over : (before between after : List ℕ) (at : ℕ) (row below : List ℕ) → length row ≡ mainWidth
+    → between ≡ sets before (mainWidth * (at + 1)) below → after ≡ sets between (mainWidth * at) row → after ≡ sets before (mainWidth * at) (row ++ below)
 row-over before between after at row below n e f =
-    let here : 10 * (at + 1) ≡ 10 * at + length row = omega arith in
+    let here : mainWidth * (at + 1) ≡ mainWidth * at + length row = omega arith in
     f
-    ∙ ap (λ (l : List ℕ). sets l (10 * at) row) e
-    ∙ sets-comm row below before (10 * at) (10 * (at + 1)) (omega arith)
-    ∙ ap (λ (i : ℕ). sets (sets before (10 * at) row) i below) here
-    ∙ sym (sets-append row below before (10 * at))
+    ∙ ap (λ (l : List ℕ). sets l (mainWidth * at) row) e
+    ∙ sets-comm row below before (mainWidth * at) (mainWidth * (at + 1)) (omega arith)
+    ∙ ap (λ (i : ℕ). sets (sets before (mainWidth * at) row) i below) here
+    ∙ sym (sets-append row below before (mainWidth * at))
 
 -- ---- the ways out
 
 -- the answer, and the table afterwards
 pub record Filled (row : PendingRow) (at : ℕ) (before after : List ℕ) (answer : Choice) : Type 0 where
   pub result : answer ≡ topResult (sectionOf row)
-  pub words : after ≡ sets before (10 * at) (sectionWords (sectionOf row))
+  pub words : after ≡ sets before (mainWidth * at) (sectionWords (sectionOf row))
 
 -- from the two clauses of the contract
 pub both-clauses : {row : PendingRow} {at : ℕ} {before after : List ℕ} {answer : Choice}
-    → (answer ≡ topResult (sectionOf row)) × (after ≡ sets before (10 * at) (sectionWords (sectionOf row))) → Filled row at before after answer
+    → (answer ≡ topResult (sectionOf row)) × (after ≡ sets before (mainWidth * at) (sectionWords (sectionOf row))) → Filled row at before after answer
 both-clauses (r, w) = record { result = r; words = w }
 
 pub end-filled : (row : PendingRow) (at : ℕ) (before after : List ℕ) (choice : Choice)
     → endOf row ≡ true
     → choice ≡ ending (row .ci) (row .bits)
-    → after ≡ sets before (10 * at) (sectionWords (rowAbove row choice []))
+    → after ≡ sets before (mainWidth * at) (sectionWords (rowAbove row choice []))
     → Filled row at before after choice
 end-filled row at before after choice e f w =
     let s : sectionOf row ≡ rowAbove row choice [] = rw f (last-section row e) in
@@ -128,7 +125,7 @@ module _ (row next : PendingRow) (at : ℕ) (before between : List ℕ) (below :
   pub row-filled : (result : ℕ) (after : List ℕ) (choice : Choice)
       → below ≡ Value result
       → choice ≡ carriedTo row result
-      → after ≡ sets between (10 * at) (sectionWords (rowAbove row choice []))
+      → after ≡ sets between (mainWidth * at) (sectionWords (rowAbove row choice []))
       → Filled row at before after choice
   unfolding tableWords
   row-filled result after choice v c w = go (sectionOf next) refl where
@@ -143,8 +140,7 @@ module _ (row next : PendingRow) (at : ℕ) (before between : List ℕ) (below :
       no-section : (t : Bool) → isOpcode (row .ci) ≡ t → ⊥
       no-section true o = value-known (carry-known (row .ci) (row .«copy_flag») (row .bits) (row .lhs) (row .rhs) result o) (sym c ∙ q)
       no-section false o =
-          let u = section-unknown (rowsLeft next) (next .«copy_flag») (next .bits) (next .ci) (next .lhs) (next .rhs) (next .multiplicity)
-          (ap isOpcode (b .ci) ∙ o) in
+          let u = section-unknown (rowsLeft next) (pendingOf next) (ap (λ (q : Pending). isOpcode (q .ci)) (b .pending) ∙ o) in
           let z : _≡_ {A = ℕ} 0 1 = cc in
           omega arith
 

@@ -18,10 +18,11 @@ use Rattle.isa.specs.declared.U32TableEntry.{U32TableEntry}
 use Rattle.isa.specs.Entries.{lhs, rhs, entry, dominant, height}
 use Rattle.isa.proofs.Entries.{Admissible, height-bound}
 use Rattle.isa.proofs.Entries.{dominant-end, end-dominant, dominant-half-pow, dominant-half, height-end, height-next, height-at-least}
-use Rattle.air.specs.Columns.{Row}
+use Rattle.table.specs.Columns.{Row}
 use Rattle.fill_results.specs.declared.Choice.{Choice}
 use Rattle.fill_results.specs.Results.{isEnd, ending, carry}
 use Rattle.fill_results.proofs.Results.{IsValue, value, ending-known, carry-known, ending-unknown}
+use Rattle.fill_sections.specs.Sections.{Pending, firstPending, nextPending, isLast}
 use Rattle.fill_sections.specs.Sections.{sectionRow, nextLhs, Section, rows, noSection, above, aboveSection}
 use Rattle.fill_sections.specs.Sections.{sectionFrom, section}
 
@@ -64,50 +65,56 @@ next-height ci l r e = height-next (entry ci l r) (entry ci (nextLhs ci l) (r / 
 
 -- ---- the section by its first row
 
-module _ (n copyFlag bits ci l r m : ℕ) where
-  pub section-end : isEnd ci l r ≡ true
-      → sectionFrom (suc n) copyFlag bits ci l r m ≡ above copyFlag bits ci l r m (ending ci bits) []
+-- the rows from a row to the section's end, this one included
+abbrev left : Pending → ℕ
+left q = height (entry (q .ci) (q .lhs) (q .rhs))
+
+last-left : (q : Pending) → isLast q ≡ true → left q ≡ 1
+last-left q e = end-height (q .ci) (q .lhs) (q .rhs) e
+
+next-left : (q : Pending) → isLast q ≡ false → left q ≡ suc (left (nextPending q))
+next-left q e = next-height (q .ci) (q .lhs) (q .rhs) e
+
+some-left : (q : Pending) → 1 ≤ left q
+some-left q = height-at-least (entry (q .ci) (q .lhs) (q .rhs))
+
+module _ (n : ℕ) (q : Pending) where
+  pub section-end : isLast q ≡ true → sectionFrom (suc n) q ≡ above q (ending (q .ci) (q .bits)) []
   unfolding sectionFrom
   section-end e = rw e
 
-  pub section-next : isEnd ci l r ≡ false
-      → sectionFrom (suc n) copyFlag bits ci l r m
-      ≡ aboveSection copyFlag bits ci l r m (sectionFrom n 0 (bits + 1) ci (nextLhs ci l) (r / 2) 0)
+  pub section-next : isLast q ≡ false → sectionFrom (suc n) q ≡ aboveSection q (sectionFrom n (nextPending q))
   unfolding sectionFrom
   section-next e = rw e
 
 -- fuel for the height is enough
-pub section-fuel : (n k copyFlag bits ci l r m : ℕ) → height (entry ci l r) ≤ n → height (entry ci l r) ≤ k
-    → sectionFrom n copyFlag bits ci l r m ≡ sectionFrom k copyFlag bits ci l r m
-section-fuel zero k copyFlag bits ci l r m p q = absurd (omega (arith, height-at-least (entry ci l r)))
-section-fuel (suc n) zero copyFlag bits ci l r m p q = absurd (omega (arith, height-at-least (entry ci l r)))
-section-fuel (suc n) (suc k) copyFlag bits ci l r m p q =
-    step λ a b. section-fuel n k 0 (bits + 1) ci (nextLhs ci l) (r / 2) 0 a b
+pub section-fuel : (n k : ℕ) (q : Pending) → left q ≤ n → left q ≤ k → sectionFrom n q ≡ sectionFrom k q
+section-fuel zero k q a b = absurd (omega (arith, some-left q))
+section-fuel (suc n) zero q a b = absurd (omega (arith, some-left q))
+section-fuel (suc n) (suc k) q a b = step λ c d. section-fuel n k (nextPending q) c d
   where
-    step : (height (entry ci (nextLhs ci l) (r / 2)) ≤ n → height (entry ci (nextLhs ci l) (r / 2)) ≤ k
-        → sectionFrom n 0 (bits + 1) ci (nextLhs ci l) (r / 2) 0 ≡ sectionFrom k 0 (bits + 1) ci (nextLhs ci l) (r / 2) 0)
-        → sectionFrom (suc n) copyFlag bits ci l r m ≡ sectionFrom (suc k) copyFlag bits ci l r m
-    step below = go (isEnd ci l r) refl where
-      go : (t : Bool) → isEnd ci l r ≡ t → sectionFrom (suc n) copyFlag bits ci l r m ≡ sectionFrom (suc k) copyFlag bits ci l r m
-      go true e = section-end n copyFlag bits ci l r m e ∙ sym (section-end k copyFlag bits ci l r m e)
+    step : (left (nextPending q) ≤ n → left (nextPending q) ≤ k → sectionFrom n (nextPending q) ≡ sectionFrom k (nextPending q))
+        → sectionFrom (suc n) q ≡ sectionFrom (suc k) q
+    step below = go (isLast q) refl where
+      go : (t : Bool) → isLast q ≡ t → sectionFrom (suc n) q ≡ sectionFrom (suc k) q
+      go true e = section-end n q e ∙ sym (section-end k q e)
       go false e =
-          section-next n copyFlag bits ci l r m e
-          ∙ ap (aboveSection copyFlag bits ci l r m)
-          (below (omega (arith, next-height ci l r e)) (omega (arith, next-height ci l r e)))
-          ∙ sym (section-next k copyFlag bits ci l r m e)
+          section-next n q e
+          ∙ ap (aboveSection q) (below (omega (arith, next-left q e)) (omega (arith, next-left q e)))
+          ∙ sym (section-next k q e)
 
-pub section-height : (e : U32TableEntry) (m : ℕ) → height e ≤ 34 → section e m ≡ sectionFrom (height e) 1 0 (e .opcode) (lhs e) (rhs e) m
+pub section-height : (e : U32TableEntry) (m : ℕ) → height e ≤ 34 → section e m ≡ sectionFrom (height e) (firstPending e m)
 unfolding section
-section-height e m h = section-fuel 34 (height e) 1 0 (e .opcode) (lhs e) (rhs e) m h (omega arith)
+section-height e m h = section-fuel 34 (height e) (firstPending e m) h (omega arith)
 
 -- ---- the six opcodes
 
 -- no other number has a section
-pub section-unknown : (n copyFlag bits ci l r m : ℕ) → isOpcode ci ≡ false → sectionFrom n copyFlag bits ci l r m ≡ noSection
+pub section-unknown : (n : ℕ) (q : Pending) → isOpcode (q .ci) ≡ false → sectionFrom n q ≡ noSection
 unfolding sectionFrom
-section-unknown zero copyFlag bits ci l r m k = refl
-section-unknown (suc n) copyFlag bits ci l r m k =
-    rw (section-unknown n 0 (bits + 1) ci (nextLhs ci l) (r / 2) 0 k, ending-unknown ci bits k) (same (isEnd ci l r))
+section-unknown zero q k = refl
+section-unknown (suc n) q k =
+    rw (section-unknown n (nextPending q) k, ending-unknown (q .ci) (q .bits) k) (same (isLast q))
   where
     same : (t : Bool) → cond t noSection noSection ≡ noSection
     same true = refl
@@ -123,24 +130,23 @@ pub data OnlyLastEnds : Row → List Row → Type 0 where
   last : {row : Row} → isEndRow row ≡ true → OnlyLastEnds row []
   earlier : {row next : Row} {more : List Row} → isEndRow row ≡ false → OnlyLastEnds next more → OnlyLastEnds row (next ∷ more)
 
--- n rows, of which the first has these words
-pub record HasRows (n copyFlag bits ci l r m : ℕ) (s : Section) : Type 0 where
+-- n rows, of which the first is this one
+pub record HasRows (n : ℕ) (q : Pending) (s : Section) : Type 0 where
   pub first : Row
   pub more : List Row
   pub is : s ≡ rows first more
-  pub top : first ≡ sectionRow copyFlag bits ci l r (first .result) m
+  pub top : first ≡ sectionRow q (first .result)
   pub count : length (first ∷ more) ≡ n
   pub ends : OnlyLastEnds first more
 
-module _ (copyFlag bits ci l r m : ℕ) where
-  last-row : {s : Section} {c : Choice} → isEnd ci l r ≡ true → IsValue c → s ≡ above copyFlag bits ci l r m c []
-      → HasRows 1 copyFlag bits ci l r m s
-  last-row e (value v) i = record { first = sectionRow copyFlag bits ci l r v m; more = []; is = i; top = refl; count = refl; ends = last e }
+module _ (q : Pending) where
+  last-row : {s : Section} {c : Choice} → isLast q ≡ true → IsValue c → s ≡ above q c [] → HasRows 1 q s
+  last-row e (value v) i = record { first = sectionRow q v; more = []; is = i; top = refl; count = refl; ends = last e }
 
-  row-above : {s : Section} {c : Choice} {next : Row} {more : List Row} → isEnd ci l r ≡ false → IsValue c → OnlyLastEnds next more
-      → s ≡ above copyFlag bits ci l r m c (next ∷ more) → HasRows (suc (length (next ∷ more))) copyFlag bits ci l r m s
+  row-above : {s : Section} {c : Choice} {next : Row} {more : List Row} → isLast q ≡ false → IsValue c → OnlyLastEnds next more
+      → s ≡ above q c (next ∷ more) → HasRows (suc (length (next ∷ more))) q s
   row-above {next = next} {more = more} e (value v) o i = record {
-    first = sectionRow copyFlag bits ci l r v m;
+    first = sectionRow q v;
     more = next ∷ more;
     is = i;
     top = refl;
@@ -148,31 +154,26 @@ module _ (copyFlag bits ci l r m : ℕ) where
     ends = earlier e o;
   }
 
-pub rows-from : (n copyFlag bits ci l r m : ℕ) → isOpcode ci ≡ true → height (entry ci l r) ≡ n
-    → HasRows n copyFlag bits ci l r m (sectionFrom n copyFlag bits ci l r m)
-rows-from zero copyFlag bits ci l r m k h = absurd (omega (arith, height-at-least (entry ci l r)))
-rows-from (suc n) copyFlag bits ci l r m k h =
-    go (isEnd ci l r) refl (λ e. rows-from n 0 (bits + 1) ci (nextLhs ci l) (r / 2) 0 k e)
+pub rows-from : (n : ℕ) (q : Pending) → isOpcode (q .ci) ≡ true → left q ≡ n → HasRows n q (sectionFrom n q)
+rows-from zero q k h = absurd (omega (arith, some-left q))
+rows-from (suc n) q k h = go (isLast q) refl (λ e. rows-from n (nextPending q) k e)
   where
-    go : (t : Bool) → isEnd ci l r ≡ t
-        → (height (entry ci (nextLhs ci l) (r / 2)) ≡ n
-        → HasRows n 0 (bits + 1) ci (nextLhs ci l) (r / 2) 0 (sectionFrom n 0 (bits + 1) ci (nextLhs ci l) (r / 2) 0))
-        → HasRows (suc n) copyFlag bits ci l r m (sectionFrom (suc n) copyFlag bits ci l r m)
+    go : (t : Bool) → isLast q ≡ t → (left (nextPending q) ≡ n → HasRows n (nextPending q) (sectionFrom n (nextPending q)))
+        → HasRows (suc n) q (sectionFrom (suc n) q)
     go true e below =
-        let one : suc n ≡ 1 = omega (arith, end-height ci l r e) in
-        let s = last-row copyFlag bits ci l r m e (ending-known ci bits k) (section-end n copyFlag bits ci l r m e) in
+        let one : suc n ≡ 1 = omega (arith, last-left q e) in
+        let s = last-row q e (ending-known (q .ci) (q .bits) k) (section-end n q e) in
         record { first = s .first; more = s .more; is = s .is; top = s .top; count = s .count ∙ sym one; ends = s .ends }
     go false e below =
-        let b = below (omega (arith, next-height ci l r e)) in
-        let i : sectionFrom (suc n) copyFlag bits ci l r m
-        ≡ above copyFlag bits ci l r m (carry ci copyFlag bits l r (b .first .result)) (b .first ∷ b .more)
-        = section-next n copyFlag bits ci l r m e ∙ ap (aboveSection copyFlag bits ci l r m) (b .is) in
-        let s = row-above copyFlag bits ci l r m e (carry-known ci copyFlag bits l r (b .first .result) k) (b .ends) i in
+        let b = below (omega (arith, next-left q e)) in
+        let i : sectionFrom (suc n) q
+        ≡ above q (carry (q .ci) (q .copyFlag) (q .bits) (q .lhs) (q .rhs) (b .first .result)) (b .first ∷ b .more)
+        = section-next n q e ∙ ap (aboveSection q) (b .is) in
+        let s = row-above q e (carry-known (q .ci) (q .copyFlag) (q .bits) (q .lhs) (q .rhs) (b .first .result) k) (b .ends) i in
         record { first = s .first; more = s .more; is = s .is; top = s .top; count = s .count ∙ ap suc (b .count); ends = s .ends }
 
 -- an admitted entry's section
-pub section-rows : (e : U32TableEntry) (m : ℕ) → Admissible e
-    → HasRows (height e) 1 0 (e .opcode) (lhs e) (rhs e) m (section e m)
+pub section-rows : (e : U32TableEntry) (m : ℕ) → Admissible e → HasRows (height e) (firstPending e m) (section e m)
 section-rows e m a =
     rw (section-height e m (omega (arith, height-bound e a)))
-    (rows-from (height e) 1 0 (e .opcode) (lhs e) (rhs e) m (a .known) refl)
+    (rows-from (height e) (firstPending e m) (a .known) refl)

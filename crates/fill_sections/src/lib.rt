@@ -6,11 +6,14 @@ ghost use lib.ListN.{length};
 ghost use lib.Seq.{sets};
 ghost use Rattle.field.specs.SmallInverses.{smallInverses};
 ghost use Rattle.isa.specs.Entries.{height};
-ghost use Rattle.fill_sections.specs.Sections.{bitsMinus33Inverses, sectionRow, above, topResult, section, rowWords, sectionWords};
-ghost use Rattle.fill_sections.specs.PendingRows.{CarriesInverses, IsBelow, rowsLeft, sectionOf};
+ghost use Rattle.table.specs.Columns.{mainWidth};
+ghost use Rattle.table.specs.Layouts.{rowOf};
+ghost use Rattle.fill_sections.specs.Sections.{bitsMinus33Inverses, sectionRow, above, topResult, section, sectionWords};
+ghost use Rattle.fill_sections.specs.PendingRows.{CarriesInverses, IsBelow, pendingOf, rowsLeft, sectionOf};
 use field::BFieldElement;
 use fill_results::Choice;
 use isa::U32TableEntry;
+use table::MainRow;
 
 // The inverses of Bits − 33 for Bits from 0 to 32.
 pub const BITS_MINUS_33_INVERSES: [u64; 33] = [
@@ -71,7 +74,7 @@ struct PendingRow {
 impl PendingRow {
     // The row below: the operands are halved, but LHS of pow, and their inverses follow.
     fn next(self, small: &[u64; 256]) -> Self
-        requires { ⌜ (self .bits < 33) × (now small ≡ smallInverses) ⌝ }
+        requires { ⌜ (self .bits < 33) × CarriesInverses self × (now small ≡ smallInverses) ⌝ }
         ensures { λ r. ⌜ IsBelow self r ⌝ }
     {
         let lhs_inverse = self.lhs_inverse;
@@ -101,24 +104,26 @@ impl PendingRow {
         }
     }
 
-    // The row's ten words, once its Result is known.
-    fn words(self, result: u64, inverses: &[u64; 33]) -> [u64; 10]
+    // The row, once its Result is known.
+    fn row(self, result: u64, inverses: &[u64; 33]) -> MainRow
         requires { ⌜ (self .bits < 33) × CarriesInverses self × (now inverses ≡ bitsMinus33Inverses) ⌝ }
-        ensures { λ r. ⌜ r ≡ rowWords (sectionRow (self .«copy_flag») (self .bits) (self .ci) (self .lhs) (self .rhs) result (self .multiplicity)) ⌝ }
+        ensures { λ r. ⌜ rowOf r ≡ sectionRow (pendingOf self) result ⌝ }
     {
         let bits = self.bits as usize;
-        [
-            self.copy_flag,
-            self.bits,
-            inverses[bits],
-            self.ci,
-            self.lhs,
-            self.lhs_inverse.0,
-            self.rhs,
-            self.rhs_inverse.0,
-            result,
-            self.multiplicity,
-        ]
+        let lhs_inv = self.lhs_inverse;
+        let rhs_inv = self.rhs_inverse;
+        MainRow {
+            copy_flag: BFieldElement(self.copy_flag),
+            bits: BFieldElement(self.bits),
+            bits_minus_33_inv: BFieldElement(inverses[bits]),
+            ci: BFieldElement(self.ci),
+            lhs: BFieldElement(self.lhs),
+            lhs_inv,
+            rhs: BFieldElement(self.rhs),
+            rhs_inv,
+            result: BFieldElement(result),
+            lookup_multiplicity: BFieldElement(self.multiplicity),
+        }
     }
 }
 
@@ -130,12 +135,12 @@ fn put_pending(
     choice: Choice,
     inverses: &[u64; 33],
 )
-    requires { ⌜ 10 * (row + 1) ≤ length (now table) ⌝ }
+    requires { ⌜ mainWidth * (row + 1) ≤ length (now table) ⌝ }
     requires { ⌜ (pending .bits < 33) × CarriesInverses pending × (now inverses ≡ bitsMinus33Inverses) ⌝ }
-    ensures { λ _. ⌜ now (table .exit) ≡ sets (now (table .entry)) (10 * row) (sectionWords (above (pending .«copy_flag») (pending .bits) (pending .ci) (pending .lhs) (pending .rhs) (pending .multiplicity) choice [])) ⌝ }
+    ensures { λ _. ⌜ now (table .exit) ≡ sets (now (table .entry)) (mainWidth * row) (sectionWords (above (pendingOf pending) choice [])) ⌝ }
 {
     if let Choice::Value(result) = choice {
-        words::put_row(table, 10 * row, pending.words(result, inverses));
+        pending.row(result, inverses).put(table, row);
     }
 }
 
@@ -148,10 +153,10 @@ fn fill_section(
     inverses: &[u64; 33],
     small: &[u64; 256],
 ) -> Choice
-    requires { ⌜ 10 * (row + rowsLeft pending) ≤ length (now table) ⌝ }
+    requires { ⌜ mainWidth * (row + rowsLeft pending) ≤ length (now table) ⌝ }
     requires { ⌜ (pending .bits + rowsLeft pending ≤ 33) × CarriesInverses pending × (now inverses ≡ bitsMinus33Inverses) × (now small ≡ smallInverses) ⌝ }
     ensures { λ r. ⌜ r ≡ topResult (sectionOf pending) ⌝ }
-    ensures { λ _. ⌜ now (table .exit) ≡ sets (now (table .entry)) (10 * row) (sectionWords (sectionOf pending)) ⌝ }
+    ensures { λ _. ⌜ now (table .exit) ≡ sets (now (table .entry)) (mainWidth * row) (sectionWords (sectionOf pending)) ⌝ }
 {
     if fill_results::is_end(pending.ci, pending.lhs, pending.rhs) {
         let choice = fill_results::ending(pending.ci, pending.bits);
@@ -183,10 +188,10 @@ pub fn fill_entry(
     inverses: &[u64; 33],
     small: &[u64; 256],
 ) -> Choice
-    requires { ⌜ 10 * (row + height e) ≤ length (now table) ⌝ }
+    requires { ⌜ mainWidth * (row + height e) ≤ length (now table) ⌝ }
     requires { ⌜ (height e ≤ 33) × (now inverses ≡ bitsMinus33Inverses) × (now small ≡ smallInverses) ⌝ }
     ensures { λ r. ⌜ r ≡ topResult (section e multiplicity) ⌝ }
-    ensures { λ _. ⌜ now (table .exit) ≡ sets (now (table .entry)) (10 * row) (sectionWords (section e multiplicity)) ⌝ }
+    ensures { λ _. ⌜ now (table .exit) ≡ sets (now (table .entry)) (mainWidth * row) (sectionWords (section e multiplicity)) ⌝ }
 {
     let lhs = e.left_operand;
     let rhs = e.right_operand;

@@ -18,15 +18,17 @@ use Rattle.words.specs.declared.Refusal.the-variants.{Shape, Short, Unreduced}
 use Rattle.words.specs.declared.Judgement.{Judgement}
 use Rattle.words.specs.declared.Judgement.the-variants.{Fine, Declined}
 use Rattle.words.proofs.Judgements.{or-both, or-next, decline-fine, decline-false, decline-not-fine, decline-not-true}
+use Rattle.words.specs.Outcomes.{Outcome}
+use Rattle.words.proofs.Outcomes.{outcome-fine, done-fine}
 use Rattle.words.proofs.Sets.{sets-append, sets-front}
 use Rattle.list.specs.Lists.{U32List, used, judgeList}
 use Rattle.list.specs.Heights.{getsSection, sectionPlacesTo, sectionPlaces, listHeight}
 use Rattle.list.proofs.JudgedLists.{list-admitted, entry-admissible}
-use Rattle.air.specs.Columns.{Row, mainWidth, rowAt, rowCount, tableShape, allReduced}
-use Rattle.air.proofs.Rows.{TableShape, table-shape}
-use Rattle.fill_sections.specs.Sections.{rowWords, tableWords}
-use Rattle.fill.specs.Filling.{Sections, sectionsAt, filledAs, fillReason, fillAll}
-use Rattle.fill.specs.Padding.{paddingRow, lastFilled, padReason, paddedAs, padAll}
+use Rattle.table.specs.Columns.{Row, mainWidth, rowAt, rowCount, tableShape, allReduced}
+use Rattle.table.proofs.Rows.{TableShape, table-shape}
+use Rattle.table.specs.RowWords.{rowWords, tableWords}
+use Rattle.fill.specs.Filling.{filled, fillReason, fillAll}
+use Rattle.fill.specs.Padding.{paddingRow, lastFilled, padded, padReason, padAll}
 use Rattle.fill.proofs.ListSections.{words-append, words-length}
 use Rattle.four_calls.specs.FourCalls.{filledTable, paddedTable}
 use Rattle.four_calls.proofs.HonestRows.{HonestRow, reduced}
@@ -93,22 +95,20 @@ module _ (l : U32List) (table : List ℕ) (fine : fillReason l table ≡ Fine) w
         shape = table-shape table (f .shape-true);
         height-is = refl;
         room = f .room;
-        filled-is = ap₂ (λ (j : Judgement) (t : Sections). filledAs j t (listHeight l) table .table) fine (sections-honest .sections-are);
+        filled-is =
+            ap (λ (due : Outcome (List ℕ)). due .left) (outcome-fine (listHeight l ∷ []) table (filled l table) fine)
+            ∙ ap (λ (rs : List Row). sets table 0 (tableWords rs)) (sections-honest .sections-are);
       }
 
   -- fill answers the height
   pub fill-answer : fillAll l table .answer ≡ done (listHeight l ∷ [])
   unfolding fillAll
-  fill-answer = ap₂ (λ (j : Judgement) (t : Sections). filledAs j t (listHeight l) table .answer) fine (sections-honest .sections-are)
+  fill-answer = ap (λ (due : Outcome (List ℕ)). due .answer) (outcome-fine (listHeight l ∷ []) table (filled l table) fine)
 
 -- an answer other than a reason comes from no reason
 fill-reason : (l : U32List) (table : List ℕ) {values : List ℕ} → fillAll l table .answer ≡ done values → fillReason l table ≡ Fine
 unfolding fillAll
-fill-reason l table {values} h = go (fillReason l table) h
-  where
-    go : (j : Judgement) → filledAs j (sectionsAt l (sectionPlaces l)) (listHeight l) table .answer ≡ done values → j ≡ Fine
-    go Fine a = refl
-    go (Declined reason) a = absurd (declined-not-done reason a)
+fill-reason l table h = done-fine (fillReason l table) (listHeight l ∷ []) table (filled l table) h .0
 
 pub fill-done : (l : U32List) (table : List ℕ) (height : ℕ) → fillAll l table .answer ≡ done (height ∷ []) → Filled l table height
 fill-done l table height h =
@@ -203,7 +203,7 @@ module _ {l : U32List} {table : List ℕ} {height : ℕ} (f : Filled l table hei
   -- pad refuses nothing that fill left and answered
   pub pad-done : padAll (filledTable l table) height .answer ≡ done []
   unfolding padAll
-  pad-done = ap (λ (j : Judgement). paddedAs j (filledTable l table) height .answer) pad-reason
+  pad-done = ap (λ (due : Outcome (List ℕ)). due .answer) (outcome-fine [] (filledTable l table) (padded (filledTable l table) height) pad-reason)
 
   abbrev pub finalRows : List Row
   finalRows = paddedRows filledRows (rowCount table - height)
@@ -217,7 +217,7 @@ module _ {l : U32List} {table : List ℕ} {height : ℕ} (f : Filled l table hei
   pub padded-is : paddedTable l table height ≡ tableWords finalRows
   unfolding padAll
   padded-is =
-      ap (λ (j : Judgement). paddedAs j (filledTable l table) height .table) pad-reason
+      ap (λ (due : Outcome (List ℕ)). due .left) (outcome-fine [] (filledTable l table) (padded (filledTable l table) height) pad-reason)
       ∙ ap₂ (λ (n : ℕ) (row : Row). sets (filledTable l table) (mainWidth * height) (tableWords (replicate n row)))
       (ap (λ (n : ℕ). n / mainWidth - height) filled-length) (last-filled .padding-is)
       ∙ ap₂ (λ (ws : List ℕ) (at : ℕ). sets ws at B) (f .filled-is) (omega (arith, words-length filledRows, rows-are))

@@ -17,13 +17,13 @@ use Rattle.isa.specs.PlainFunctions.{plainLt, floorLog2, plainPow, oneBits, pla
 use Rattle.isa.specs.declared.U32TableEntry.{U32TableEntry}
 use Rattle.isa.specs.Entries.{lhs, rhs, entry, judgeEntry, admitted, dominant, heightOf, height}
 use Rattle.isa.proofs.Entries.{Admissible, fine-admissible}
-use Rattle.list.specs.Lists.{U32List, keyAt, multiplicityAt, entryAt, listShape, countFull, judgePlace, judgeList}
+use Rattle.list.specs.Lists.{U32List, keyAt, multiplicityAt, entryAt, listShape, countFull, judgeEntryBy, judgePlaceBy, judgeList}
 use Rattle.list.specs.Heights.{getsSection, sectionPlacesTo, sectionPlaces, entriesAt, sumHeights, listHeight}
-use Rattle.air.specs.Columns.{Row, mainWidth, rowAt, tableShape}
+use Rattle.table.specs.Columns.{Row, mainWidth, rowAt, tableShape}
 use Rattle.fill_results.specs.declared.Choice.the-variants.{Value}
 use Rattle.fill_results.specs.Results.{isEnd, ending}
-use Rattle.fill_sections.specs.Sections.{sectionRow, sectionFrom, section, topResult}
-use Rattle.fill.specs.Filling.{Sections, joined, sectionsAt}
+use Rattle.fill_sections.specs.Sections.{sectionRow, firstPending, sectionFrom, section, topResult}
+use Rattle.fill.specs.Filling.{sectionsAt}
 use Rattle.fill_sections.specs.Sections.{firstRow}
 use Rattle.fill.specs.Filling.{fillReason, fillAll}
 use Rattle.fill.specs.Padding.{paddingRow}
@@ -58,7 +58,8 @@ unfolding
     judgeList
     listShape
     firstReason
-    judgePlace
+    judgePlaceBy
+    judgeEntryBy
     judgeEntry
     isOpcode
     keyAt
@@ -82,21 +83,18 @@ unfolding
 fills = refl
 
 abbrev onlyRow : Row
-onlyRow = sectionRow 1 0 opLt 0 0 0 1
+onlyRow = sectionRow (firstPending (entry opLt 0 0) 1) 0
 
-one-row : sectionsAt list (sectionPlaces list) ≡ joined (onlyRow ∷ [])
+one-row : sectionsAt list (sectionPlaces list) ≡ onlyRow ∷ []
 unfolding sectionPlacesTo getsSection sectionsAt entryAt admitted keyAt multiplicityAt section sectionFrom isEnd ending
 one-row = refl
-
-same-rows : {s : Sections} {xs ys : List Row} → s ≡ joined xs → s ≡ joined ys → xs ≡ ys
-same-rows e f = cc
 
 row-below : (f : Filled list table 1) → rowAt (paddedTable list table 1) 1 .result ≡ 2
 unfolding paddingRow
 row-below f =
     ap (λ (ws : List ℕ). rowAt ws 1 .result) (padded-is f)
     ∙ ap (λ (row : Row). row .result) (row-of-words front (finalRows f) 1 (omega (arith, final-count f)))
-    ∙ ap (λ (xs : List Row). getD (paddedRows xs 1) 1 front .result) (same-rows (f .sections .sections-are) one-row)
+    ∙ ap (λ (xs : List Row). getD (paddedRows xs 1) 1 front .result) (sym (f .sections .sections-are) ∙ one-row)
 
 height-lt : height (entry opLt 0 0) ≡ 1
 unfolding height heightOf dominant

@@ -17,18 +17,22 @@ use Rattle.words.specs.Answers.{done}
 use Rattle.words.specs.declared.Refusal.the-variants.{Shape, Short, Unreduced}
 use Rattle.words.specs.declared.Judgement.{Judgement}
 use Rattle.words.specs.declared.Judgement.the-variants.{Fine, Declined}
+use Rattle.words.specs.Outcomes.{Outcome}
+use Rattle.words.proofs.Outcomes.{outcome-fine, done-fine}
 use Rattle.words.proofs.Judgements.{or-next, decline-false, decline-not-true}
 use Rattle.list.specs.Lists.{U32List}
 use Rattle.list.specs.Heights.{sectionPlaces, listHeight}
-use Rattle.air.specs.Columns.{Row, mainWidth, rowAt, rowCount, auxWidth, auxAt, tableShape, auxShape, allReduced}
-use Rattle.air.specs.Challenges.{Challenges, challengesOf, challengesShape, rowDenominator}
-use Rattle.air.specs.RunningSum.{Summand, addSummand, runningSum, denominatorsOk, summandAt, lookupSum}
-use Rattle.air.specs.Check.{AllZero, initialAt, terminalAt, ConstraintsHold, judgeCheck, checkAll}
+use Rattle.table.specs.Columns.{Row, mainWidth, rowAt, rowCount, auxWidth, auxAt, tableShape, auxShape, allReduced}
+use Rattle.table.specs.Challenges.{Challenges, challengesOf, challengesShape, rowDenominator}
+use Rattle.sums.specs.RunningSum.{Summand, addSummand, runningSum, denominatorsOk}
+use Rattle.sums.specs.LookupSum.{summandAt, lookupSum}
+use Rattle.air.specs.Check.{AllZero, initialAt, terminalAt, ConstraintsHold, checkReason, checkAll}
 use Rattle.air.proofs.Lists.{TransitionZero, SumZero, zero-initial, zero-consistency, zero-transition, zero-terminal}
 use Rattle.air.proofs.Claims.{zero-iff}
-use Rattle.fill_sections.specs.Sections.{tableWords}
+use Rattle.table.specs.RowWords.{tableWords}
 use Rattle.fill.specs.Filling.{fillReason, fillAll}
-use Rattle.fill.specs.Extending.{elementWords, sumWords, extendReason, extendedAs, extendAll}
+use Rattle.sums.specs.RunningSum.{elementWords, sumWords}
+use Rattle.fill.specs.Extending.{extendReason, extendAll}
 use Rattle.fill.proofs.ListSections.{words-length}
 use Rattle.four_calls.specs.FourCalls.{tableRowsTo, copyFlag1, copyFlag1Rows, firstRows, sumFrom, extendRefusals, AfterFill, paddedTable}
 use Rattle.four_calls.specs.FourCalls.{extendedAux, NoneRefuses, Honest}
@@ -37,9 +41,10 @@ use Rattle.four_calls.proofs.HonestRows.{HonestRow, reduced, consistent
 use Rattle.four_calls.proofs.Steps.{end-terminal}
 use Rattle.four_calls.proofs.RowLists.{each-map, each-at, last-at, below-at, words-rows, words-reduced, row-of-words, rows-of-words}
 use Rattle.four_calls.proofs.Tables.{Chain, front, padded-chain, padded-first-rows}
-use Rattle.four_calls.proofs.Sums.{denominators-of-rows, sum-of-rows, next-sum-zero, first-sum-zero, sums-reduced}
-use Rattle.air.proofs.ZeroDenominators.{ok-inverse}
-use Rattle.extend.proofs.Sums.{sums-length, sums-at}
+use Rattle.sums.proofs.SumWords.{sums-reduced}
+use Rattle.four_calls.proofs.Sums.{denominators-of-rows, sum-of-rows, next-sum-zero, first-sum-zero}
+use Rattle.sums.proofs.ZeroDenominators.{ok-inverse}
+use Rattle.sums.proofs.SumWords.{sums-length, sums-at}
 use Rattle.extend.proofs.Reasons.{extendable}
 use Rattle.words.proofs.Answers.{declined-not-done}
 use Rattle.four_calls.proofs.Calls.{Filled, fill-answer, fill-done, pad-done, shape-by-length}
@@ -115,8 +120,8 @@ module _ (xs : List Row) (chain : Chain front xs) (challenges : List ℕ) where
     }
 
     check-accepts : tableShape words ≡ true → challengesShape challenges ≡ true → allReduced challenges ≡ true → 0 < count
-        → judgeCheck words sums challenges ≡ Fine
-    unfolding judgeCheck auxShape
+        → checkReason words sums challenges ≡ Fine
+    unfolding checkReason auxShape
     check-accepts t s r n =
         let size = sums-length summands count in
         or-next _ (decline-not-true Shape (both t (both (eq-eqb (length sums) (auxWidth * count) size) s)))
@@ -131,16 +136,15 @@ module _ (xs : List Row) (chain : Chain front xs) (challenges : List ℕ) where
 extend-done : (table aux challenges : List ℕ) {sum : List ℕ} → extendAll table aux challenges .answer ≡ done sum
     → extendReason table aux challenges ≡ Fine
 unfolding extendAll
-extend-done table aux challenges {sum} h = go (extendReason table aux challenges) h
-  where
-    go : (j : Judgement) → extendedAs j table aux challenges .answer ≡ done sum → j ≡ Fine
-    go Fine a = refl
-    go (Declined reason) a = absurd (declined-not-done reason a)
+extend-done table aux challenges h =
+    done-fine (extendReason table aux challenges) (elementWords (lookupSum table challenges)) aux (sumWords (summandAt table challenges) (rowCount table)) h .0
 
+-- what is due where there is no reason
 extended-is : (table aux challenges : List ℕ) → extendReason table aux challenges ≡ Fine
-    → extendAll table aux challenges .aux ≡ sumWords (summandAt table challenges) (rowCount table)
+    → extendAll table aux challenges
+    ≡ record { answer = done (elementWords (lookupSum table challenges)); left = sumWords (summandAt table challenges) (rowCount table) }
 unfolding extendAll
-extended-is table aux challenges h = ap (λ (j : Judgement). extendedAs j table aux challenges .aux) h
+extended-is table aux challenges h = outcome-fine _ _ _ h
 
 -- ---- the claim
 module _ {l : U32List} {table : List ℕ} {height : ℕ} (f : Filled l table height) where
@@ -180,7 +184,7 @@ module _ {l : U32List} {table : List ℕ} {height : ℕ} (f : Filled l table hei
       → checkAll padded (extendedAux l table height aux challenges) challenges ≡ done []
   passes aux challenges n h =
       let fine = extendable padded aux challenges h in
-      ap (λ (a : List ℕ). checkAll padded a challenges) (extended-is padded aux challenges h)
+      ap (λ (a : List ℕ). checkAll padded a challenges) (ap (λ (due : Outcome (List ℕ)). due .left) (extended-is padded aux challenges h))
       ∙ subst (λ (ws : List ℕ). rowCount ws ≡ rowCount table → tableShape ws ≡ true
       → denominatorsOk (summandAt ws challenges) (rowCount ws) ≡ true
       → checkAll ws (sumWords (summandAt ws challenges) (rowCount ws)) challenges ≡ done [])
@@ -209,14 +213,13 @@ after-fill l table height h =
 module _ (l : U32List) (table aux challenges : List ℕ) where
   pub none-refuses : fillReason l table ≡ Fine → extendRefusals l table aux challenges ≡ Fine
       → NoneRefuses l table aux challenges (listHeight l) (elementWords (sumFrom (challengesOf challenges) zeroX (firstRows l)))
-  unfolding extendAll
   none-refuses fine h =
       let a = after-fill l table (listHeight l) (fill-answer l table fine) in
       record {
         fill = fill-answer l table fine;
         pad = a .pad-done;
         extend =
-            ap (λ (j : Judgement). extendedAs j (paddedTable l table (listHeight l)) aux challenges .answer)
-            (a .extend-refuses aux challenges ∙ h)
+            ap (λ (due : Outcome (List ℕ)). due .answer)
+            (extended-is (paddedTable l table (listHeight l)) aux challenges (a .extend-refuses aux challenges ∙ h))
             ∙ ap (λ (x : Ext). done (elementWords x)) (a .sum-is challenges);
       }

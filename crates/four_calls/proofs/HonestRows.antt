@@ -13,8 +13,8 @@ use Rattle.isa.specs.PlainFunctions.{plainAnd, oneBits, plainPow}
 use Rattle.isa.specs.Entries.{lhsLimit, rhsLimit}
 use Rattle.isa.proofs.Entries.{OneOfSix, limit-below}
 use Rattle.isa.proofs.PlainLaws.{and-zero-left, pow-zero, one-bits-zero}
-use Rattle.air.specs.Columns.{Row}
-use Rattle.air.proofs.Rows.{RowReduced}
+use Rattle.table.specs.Columns.{Row}
+use Rattle.table.proofs.Rows.{RowReduced}
 use Rattle.air.proofs.Lists.{ConsistencyZero}
 use Rattle.check_plain.specs.Plain.{Flagged, Inverted, LtEqual, Ended, PlainRow}
 use Rattle.check_plain.proofs.PlainRows.{flag-bit, plain-zero}

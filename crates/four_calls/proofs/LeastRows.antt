@@ -13,7 +13,7 @@ use lib.Seq.{getD-append-seam}
 use borrow.Author.Tests.{eqb-true, ltb-true, ltb-false}
 use Rattle.list.specs.Lists.{U32List}
 use Rattle.list.specs.Heights.{sectionPlaces, entriesAt, sectionEntries}
-use Rattle.air.specs.Columns.{Row, rowAt, rowCount}
+use Rattle.table.specs.Columns.{Row, rowAt, rowCount}
 use Rattle.air.proofs.Judging.{accepted}
 use Rattle.air.proofs.Claims.{zero-iff}
 use Rattle.fill_sections.specs.Sections.{firstRow}

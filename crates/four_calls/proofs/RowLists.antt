@@ -11,9 +11,9 @@ use lib.ListN.{length, getD, take, replicate}
 use lib.Seq.{take-suc, take-length}
 use borrow.Author.Tests.{lt-ltb, eq-eqb}
 use Rattle.field.specs.Elements.{p}
-use Rattle.air.specs.Columns.{Row, mainWidth, rowAt, rowCount, allReduced}
-use Rattle.air.proofs.Rows.{RowReduced}
-use Rattle.fill_sections.specs.Sections.{tableWords}
+use Rattle.table.specs.Columns.{Row, mainWidth, rowAt, rowCount, allReduced}
+use Rattle.table.proofs.Rows.{RowReduced}
+use Rattle.table.specs.RowWords.{tableWords}
 use Rattle.fill.proofs.ListSections.{words-length}
 use Rattle.four_calls.specs.FourCalls.{tableRowsTo, copyFlag1}
 

@@ -10,6 +10,7 @@ use lib.ListN.{getD}
 use borrow.Author.Tests.{eq-eqb, ne-eqb}
 use Rattle.xfield.specs.Extension.{zeroX}
 use Rattle.words.specs.Answers.{Answer, done, declined}
+use Rattle.words.specs.Outcomes.{Outcome}
 use Rattle.words.specs.Refusals.{refusalNumber}
 use Rattle.words.specs.declared.Refusal.{Refusal}
 use Rattle.words.specs.declared.Judgement.{Judgement}
@@ -17,22 +18,23 @@ use Rattle.words.specs.declared.Judgement.the-variants.{Fine, Declined}
 use Rattle.words.proofs.Answers.{number-positive, declined-not-done}
 use Rattle.list.specs.Lists.{U32List}
 use Rattle.list.specs.Heights.{listHeight}
-use Rattle.air.specs.Columns.{rowCount}
-use Rattle.air.specs.Challenges.{challengesOf}
-use Rattle.air.specs.Check.{judgeCheck, firstNonzero, checkedAs, checkAll}
+use Rattle.table.specs.Columns.{rowCount}
+use Rattle.table.specs.Challenges.{challengesOf}
+use Rattle.air.specs.Check.{checkReason, firstNonzero, checkedAs, checkAll}
 use Rattle.air.proofs.Judging.{accepted}
 use Rattle.fill.specs.Filling.{fillReason, fillAll}
 use Rattle.fill.specs.Padding.{padAll}
-use Rattle.fill.specs.Extending.{elementWords, extendAll}
+use Rattle.sums.specs.RunningSum.{elementWords}
+use Rattle.fill.specs.Extending.{extendAll}
 use Rattle.four_calls.specs.FourCalls.{copyFlag1Rows, firstRows, sumFrom, extendRefusals, paddedTable, NoneRefuses}
-use Rattle.four_calls.specs.Run.{AfterRun, unlessRefused, runAll, IsRun, RunsHonestly, RefusesNoMore}
+use Rattle.four_calls.specs.Run.{Arrays, answered, thenCall, runAll, Ran, RunsHonestly, RefusesNoMore}
 use Rattle.four_calls.proofs.Calls.{fill-done}
 use Rattle.four_calls.proofs.FourCalls.{padded-rows, four-calls, none-refuses}
 
 -- what `run` ensures
-abbrev pub Ran : U32List → (table aux challenges : List ℕ) → Answer → (tableAfter auxAfter : List ℕ) → Type 0
-Ran l table aux challenges answer tableAfter auxAfter =
-    IsRun (runAll l table aux challenges) answer tableAfter auxAfter
+abbrev pub Ensured : U32List → (table aux challenges : List ℕ) → Answer → (tableAfter auxAfter : List ℕ) → Type 0
+Ensured l table aux challenges answer tableAfter auxAfter =
+    Ran l table aux challenges answer tableAfter auxAfter
     × (RunsHonestly l answer tableAfter × RefusesNoMore l table aux challenges answer)
 
 refused-no-claim : (l : U32List) (reason : Refusal) (table : List ℕ) → RunsHonestly l (declined reason) table
@@ -41,20 +43,20 @@ refused-no-claim l reason table e = absurd (omega (arith, number-positive reason
 -- a check that answers with the number 0 has found a row
 checked-rows : (table aux challenges : List ℕ) → checkAll table aux challenges .number ≡ 0 → 0 < rowCount table
 unfolding checkAll
-checked-rows table aux challenges h = go (judgeCheck table aux challenges) refl h
+checked-rows table aux challenges h = go (checkReason table aux challenges) refl h
   where
-    go : (j : Judgement) → judgeCheck table aux challenges ≡ j → checkedAs j (firstNonzero table aux challenges) .number ≡ 0
+    go : (j : Judgement) → checkReason table aux challenges ≡ j → checkedAs j (firstNonzero table aux challenges) .number ≡ 0
         → 0 < rowCount table
     go (Declined reason) e z = absurd (omega (arith, number-positive reason))
     go Fine e z = accepted table aux challenges e .some-row
 
 -- a call that refuses is the last; after one that does not comes the next
-stops : (left next : AfterRun) (reason : Refusal) → declined reason ≡ left .answer → unlessRefused left next ≡ left
+stops : (left next : Outcome Arrays) (reason : Refusal) → declined reason ≡ left .answer → thenCall left next ≡ left
 stops left next reason e =
     let z : refusalNumber reason ≡ left .answer .number = ap (λ (a : Answer). a .number) e in
     ap (λ (b : Bool). cond b next left) (ne-eqb (left .answer .number) 0 (λ n. omega (arith, number-positive reason)))
 
-goes-on : (left next : AfterRun) (values : List ℕ) → done values ≡ left .answer → unlessRefused left next ≡ next
+goes-on : (left next : Outcome Arrays) (values : List ℕ) → done values ≡ left .answer → thenCall left next ≡ next
 goes-on left next values e =
     ap (λ (b : Bool). cond b next left) (eq-eqb (left .answer .number) 0 (sym (ap (λ (a : Answer). a .number) e)))
 
@@ -64,42 +66,42 @@ module _ (l : U32List) (table aux challenges : List ℕ) where
       → NoneRefuses l table aux challenges (listHeight l) (elementWords (sumFrom (challengesOf challenges) zeroX (firstRows l)))
   none = none-refuses l table aux challenges
 
-  pub fill-refused : (reason : Refusal) (after : List ℕ) → declined reason ≡ fillAll l table .answer → after ≡ fillAll l table .table
-      → Ran l table aux challenges (declined reason) after aux
+  pub fill-refused : (reason : Refusal) (after : List ℕ) → declined reason ≡ fillAll l table .answer → after ≡ fillAll l table .left
+      → Ensured l table aux challenges (declined reason) after aux
   unfolding runAll
   fill-refused reason after a t = (
-    rw (stops (record { answer = fillAll l table .answer; table = fillAll l table .table; aux = aux }) _ reason a)
-        (record { answer-is = a; table-is = t; aux-is = refl }),
+    rw (stops (answered (fillAll l table .answer) (fillAll l table .left) aux) _ reason a)
+        (record { answer = a; left = ap (λ (w : List ℕ). record { table = w; aux = aux }) t }),
     (refused-no-claim l reason after, λ fine _ h. absurd (declined-not-done reason (a ∙ none fine h .fill))),
   )
 
-  module _ (height : ℕ) (filled : List ℕ) (fill-answer : done (height ∷ []) ≡ fillAll l table .answer) (fill-table : filled ≡ fillAll l table .table) where
+  module _ (height : ℕ) (filled : List ℕ) (fill-answer : done (height ∷ []) ≡ fillAll l table .answer) (fill-table : filled ≡ fillAll l table .left) where
     height-is : fillReason l table ≡ Fine → extendRefusals l table aux challenges ≡ Fine → height ≡ listHeight l
     height-is fine h = ap (λ (a : Answer). getD (a .values) 0 0) (fill-answer ∙ none fine h .fill)
 
     pads : fillReason l table ≡ Fine → extendRefusals l table aux challenges ≡ Fine → padAll filled height .answer ≡ done []
     pads fine h = rw (fill-table, height-is fine h) (none fine h .pad)
 
-    pub pad-refused : (reason : Refusal) (after : List ℕ) → declined reason ≡ padAll filled height .answer → after ≡ padAll filled height .table
-        → Ran l table aux challenges (declined reason) after aux
+    pub pad-refused : (reason : Refusal) (after : List ℕ) → declined reason ≡ padAll filled height .answer → after ≡ padAll filled height .left
+        → Ensured l table aux challenges (declined reason) after aux
     unfolding runAll
     pad-refused reason after a t = (
-      rw (← fill-answer, ← fill-table, stops (record { answer = padAll filled height .answer; table = padAll filled height .table; aux = aux }) _ reason a)
-          (record { answer-is = a; table-is = t; aux-is = refl }),
+      rw (← fill-answer, ← fill-table, stops (answered (padAll filled height .answer) (padAll filled height .left) aux) _ reason a)
+          (record { answer = a; left = ap (λ (w : List ℕ). record { table = w; aux = aux }) t }),
       (refused-no-claim l reason after, λ fine _ h. absurd (declined-not-done reason (a ∙ pads fine h))),
     )
 
-    module _ (padded : List ℕ) (pad-answer : done [] ≡ padAll filled height .answer) (pad-table : padded ≡ padAll filled height .table) where
+    module _ (padded : List ℕ) (pad-answer : done [] ≡ padAll filled height .answer) (pad-table : padded ≡ padAll filled height .left) where
       extends : fillReason l table ≡ Fine → extendRefusals l table aux challenges ≡ Fine
           → extendAll padded aux challenges .answer ≡ done (elementWords (sumFrom (challengesOf challenges) zeroX (firstRows l)))
       extends fine h = rw (pad-table, fill-table, height-is fine h) (none fine h .extend)
 
       pub extend-refused : (reason : Refusal) (after : List ℕ) → declined reason ≡ extendAll padded aux challenges .answer
-          → after ≡ extendAll padded aux challenges .aux → Ran l table aux challenges (declined reason) padded after
+          → after ≡ extendAll padded aux challenges .left → Ensured l table aux challenges (declined reason) padded after
       unfolding runAll
       extend-refused reason after a x = (
-        rw (← fill-answer, ← fill-table, ← pad-answer, ← pad-table, stops (record { answer = extendAll padded aux challenges .answer; table = padded; aux = extendAll padded aux challenges .aux }) _ reason a)
-            (record { answer-is = a; table-is = refl; aux-is = x }),
+        rw (← fill-answer, ← fill-table, ← pad-answer, ← pad-table, stops (answered (extendAll padded aux challenges .answer) padded (extendAll padded aux challenges .left)) _ reason a)
+            (record { answer = a; left = ap (λ (w : List ℕ). record { table = padded; aux = w }) x }),
         (
           refused-no-claim l reason padded,
           λ fine _ h. absurd (declined-not-done reason (a ∙ extends fine h)),
@@ -107,12 +109,12 @@ module _ (l : U32List) (table aux challenges : List ℕ) where
       )
 
       pub checked : (sum : List ℕ) (extended : List ℕ) (answer : Answer) → done sum ≡ extendAll padded aux challenges .answer
-          → extended ≡ extendAll padded aux challenges .aux → answer ≡ checkAll padded extended challenges
-          → Ran l table aux challenges answer padded extended
+          → extended ≡ extendAll padded aux challenges .left → answer ≡ checkAll padded extended challenges
+          → Ensured l table aux challenges answer padded extended
       unfolding runAll
       checked sum extended answer a x v = (
         rw (← fill-answer, ← fill-table, ← pad-answer, ← pad-table, ← a, ← x)
-            (record { answer-is = v; table-is = refl; aux-is = refl }),
+            (record { answer = v; left = refl }),
         (
           λ z. honest (subst (λ (n : ℕ). 0 < n) same-rows (checked-rows padded extended challenges (ap (λ (b : Answer). b .number) (sym v) ∙ z))),
           λ fine n h. honest n .0,

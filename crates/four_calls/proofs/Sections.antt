@@ -16,11 +16,12 @@ use Rattle.isa.specs.declared.U32TableEntry.{U32TableEntry}
 use Rattle.isa.specs.Entries.{entry, lhs, rhs, lhsLimit, rhsLimit, height}
 use Rattle.isa.proofs.Entries.{OneOfSix, opcode-cases, Admissible}
 use Rattle.isa.proofs.Entries.{height-at-least, height-bound}
-use Rattle.air.specs.Columns.{Row}
+use Rattle.table.specs.Columns.{Row}
 use Rattle.air.proofs.Descent.{EndRow}
 use Rattle.air.proofs.Lists.{TransitionZero}
 use Rattle.fill_results.specs.declared.Choice.the-variants.{Value}
-use Rattle.fill_results.specs.Results.{isEnd, ending, carry}
+use Rattle.fill_results.specs.Results.{ending, carry}
+use Rattle.fill_sections.specs.Sections.{Pending, firstPending, nextPending, isLast}
 use Rattle.fill_sections.specs.Sections.{sectionRow, nextLhs, Section, rows, noSection, above, aboveSection}
 use Rattle.fill_sections.specs.Sections.{sectionFrom, section, firstRow}
 use Rattle.fill_sections.proofs.Sections.{end-zero, end-height, next-height, section-end, section-next}
@@ -29,25 +30,34 @@ use Rattle.four_calls.proofs.HonestRows.{HonestRow, lhs-below}
 use Rattle.four_calls.proofs.Steps.{Follows, next-other, next-pow, follows-zero}
 use Rattle.four_calls.proofs.RowLists.{Each, Below, lastOf}
 
--- ---- the words of a row, from which a section goes down
-record Words (copyFlag bits ci l r multiplicity : ℕ) : Type 0 where
-  pub known : OneOfSix ci
-  pub flag : ((copyFlag ≡ 0) × ((bits ≢ 0) × (multiplicity ≡ 0))) ⊎ ((copyFlag ≡ 1) × (bits ≡ 0))
-  pub lhs-limit : l < lhsLimit ci
-  pub rhs-limit : r < rhsLimit
-  pub log-lhs : ci ≡ opLog2Floor → copyFlag ≡ 1 → l ≢ 0
-  pub multiplicity-limit : multiplicity < p
-  pub room : bits + height (entry ci l r) ≤ 33
+-- ---- a pending row, from which a section goes down
+abbrev left : Pending → ℕ
+left q = height (entry (q .ci) (q .lhs) (q .rhs))
 
-abbrev rowOf : (copyFlag bits ci l r multiplicity : ℕ) → Row
-rowOf copyFlag bits ci l r multiplicity = sectionRow copyFlag bits ci l r (rowResult ci copyFlag bits l r) multiplicity
+-- the first row of a section, or one below it
+abbrev Flagged : Pending → Type 0
+Flagged q = ((q .copyFlag ≡ 0) × ((q .bits ≢ 0) × (q .multiplicity ≡ 0))) ⊎ ((q .copyFlag ≡ 1) × (q .bits ≡ 0))
 
-honest-row : (copyFlag bits ci l r multiplicity : ℕ) → Words copyFlag bits ci l r multiplicity
-    → HonestRow (rowOf copyFlag bits ci l r multiplicity)
-honest-row copyFlag bits ci l r multiplicity w = record {
+record Fitting (q : Pending) : Type 0 where
+  pub known : OneOfSix (q .ci)
+  pub flag : Flagged q
+  pub lhs-limit : q .lhs < lhsLimit (q .ci)
+  pub rhs-limit : q .rhs < rhsLimit
+  pub log-lhs : q .ci ≡ opLog2Floor → q .copyFlag ≡ 1 → q .lhs ≢ 0
+  pub multiplicity-limit : q .multiplicity < p
+  pub room : q .bits + left q ≤ 33
+
+abbrev resultOf : Pending → ℕ
+resultOf q = rowResult (q .ci) (q .copyFlag) (q .bits) (q .lhs) (q .rhs)
+
+abbrev rowOf : Pending → Row
+rowOf q = sectionRow q (resultOf q)
+
+honest-row : (q : Pending) → Fitting q → HonestRow (rowOf q)
+honest-row q w = record {
   known = w .known;
   flagged = flagged (w .flag);
-  bits-limit = omega (arith, w .room, height-at-least (entry ci l r));
+  bits-limit = omega (arith, w .room, height-at-least (entry (q .ci) (q .lhs) (q .rhs)));
   lhs-limit = w .lhs-limit;
   rhs-limit = w .rhs-limit;
   log-lhs = w .log-lhs;
@@ -58,8 +68,7 @@ honest-row copyFlag bits ci l r multiplicity w = record {
   result-is = refl;
 }
   where
-    flagged : ((copyFlag ≡ 0) × ((bits ≢ 0) × (multiplicity ≡ 0))) ⊎ ((copyFlag ≡ 1) × (bits ≡ 0))
-        → ((copyFlag ≡ 0) × (multiplicity ≡ 0)) ⊎ ((copyFlag ≡ 1) × (bits ≡ 0))
+    flagged : Flagged q → ((q .copyFlag ≡ 0) × (q .multiplicity ≡ 0)) ⊎ ((q .copyFlag ≡ 1) × (q .bits ≡ 0))
     flagged (inl f) = inl (f .0, f .1 .1)
     flagged (inr f) = inr f
 
@@ -70,19 +79,22 @@ next-limit ci l h = go (ℕ-discrete ci opPow)
     go (yes e) = omega (arith, next-pow l e)
     go (no n) = omega (arith, next-other l n)
 
-module _ (copyFlag bits ci l r multiplicity : ℕ) (w : Words copyFlag bits ci l r multiplicity) (going : isEnd ci l r ≡ false) where
-  next-words : Words 0 (bits + 1) ci (nextLhs ci l) (r / 2) 0
-  next-words = record {
+next-left : (q : Pending) → isLast q ≡ false → left q ≡ suc (left (nextPending q))
+next-left q e = next-height (q .ci) (q .lhs) (q .rhs) e
+
+module _ (q : Pending) (w : Fitting q) (going : isLast q ≡ false) where
+  next-fits : Fitting (nextPending q)
+  next-fits = record {
     known = w .known;
     flag = inl (refl, (λ e. omega arith, refl));
-    lhs-limit = next-limit ci l (w .lhs-limit);
+    lhs-limit = next-limit (q .ci) (q .lhs) (w .lhs-limit);
     rhs-limit = omega (arith, w .rhs-limit);
     log-lhs = λ c e. absurd (omega arith);
     multiplicity-limit = lit< tt;
-    room = omega (arith, next-height ci l r going, w .room);
+    room = omega (arith, next-left q going, w .room);
   }
 
-  next-follows : Follows (rowOf copyFlag bits ci l r multiplicity) (rowOf 0 (bits + 1) ci (nextLhs ci l) (r / 2) 0)
+  next-follows : Follows (rowOf q) (rowOf (nextPending q))
   next-follows = record { copyFlag-zero = refl; ci-same = refl; lhs-next = refl; rhs-half = refl; bits-next = inl refl }
 
 -- ---- the rows of a section below its first
@@ -95,96 +107,85 @@ pub record SectionRows (first : Row) (more : List Row) : Type 0 where
   pub copyFlags : Each (λ row. row .copyFlag ≡ 0) more
   pub multiplicities : Each (λ row. row .lookupMultiplicity ≡ 0) more
 
-record SectionOf (copyFlag bits ci l r multiplicity : ℕ) (first : Row) (more : List Row) : Type 0 where
-  pub first-is : first ≡ rowOf copyFlag bits ci l r multiplicity
+record SectionOf (q : Pending) (first : Row) (more : List Row) : Type 0 where
+  pub first-is : first ≡ rowOf q
   pub section-rows : SectionRows first more
-  pub section-length : suc (length more) ≡ height (entry ci l r)
+  pub section-length : suc (length more) ≡ left q
 
-abbrev IsSection : (copyFlag bits ci l r multiplicity : ℕ) → Section → Type 0
-IsSection copyFlag bits ci l r multiplicity (rows first more) = SectionOf copyFlag bits ci l r multiplicity first more
-IsSection copyFlag bits ci l r multiplicity noSection = ⊥
+abbrev IsSection : Pending → Section → Type 0
+IsSection q (rows first more) = SectionOf q first more
+IsSection q noSection = ⊥
 
-last-row : (copyFlag bits ci l r multiplicity : ℕ) → Words copyFlag bits ci l r multiplicity → isEnd ci l r ≡ true
-    → IsSection copyFlag bits ci l r multiplicity (above copyFlag bits ci l r multiplicity (ending ci bits) [])
-last-row copyFlag bits ci l r multiplicity w e =
-    rw (ending-is ci (w .known) copyFlag bits l r (flag (w .flag)) (zero .0) lhs-zero)
+last-row : (q : Pending) → Fitting q → isLast q ≡ true → IsSection q (above q (ending (q .ci) (q .bits)) [])
+last-row q w e =
+    rw (ending-is (q .ci) (w .known) (q .copyFlag) (q .bits) (q .lhs) (q .rhs) (flag (w .flag)) (zero .0) lhs-zero)
     (record {
       first-is = refl;
       section-rows = record {
-        honest = honest-row copyFlag bits ci l r multiplicity w;
+        honest = honest-row q w;
         each = tt;
         below = tt;
         ends = record { rhs-zero = zero .0; lhs-zero = lhs-zero };
         copyFlags = tt;
         multiplicities = tt;
       };
-      section-length = sym (end-height ci l r e);
+      section-length = sym (end-height (q .ci) (q .lhs) (q .rhs) e);
     })
   where
-    zero : (r ≡ 0) × ((l ≡ 0) ⊎ (ci ≡ opPow))
-    zero = end-zero ci l r e
+    zero : (q .rhs ≡ 0) × ((q .lhs ≡ 0) ⊎ (q .ci ≡ opPow))
+    zero = end-zero (q .ci) (q .lhs) (q .rhs) e
 
-    lhs-zero : ci ≢ opPow → l ≡ 0
+    lhs-zero : q .ci ≢ opPow → q .lhs ≡ 0
     lhs-zero n = go (zero .1)
       where
-        go : (l ≡ 0) ⊎ (ci ≡ opPow) → l ≡ 0
+        go : (q .lhs ≡ 0) ⊎ (q .ci ≡ opPow) → q .lhs ≡ 0
         go (inl z) = z
         go (inr c) = absurd (n c)
 
-    flag : ((copyFlag ≡ 0) × ((bits ≢ 0) × (multiplicity ≡ 0))) ⊎ ((copyFlag ≡ 1) × (bits ≡ 0))
-        → ((copyFlag ≡ 0) × (bits ≢ 0)) ⊎ ((copyFlag ≡ 1) × (bits ≡ 0))
+    flag : Flagged q → ((q .copyFlag ≡ 0) × (q .bits ≢ 0)) ⊎ ((q .copyFlag ≡ 1) × (q .bits ≡ 0))
     flag (inl f) = inl (f .0, f .1 .0)
     flag (inr f) = inr f
 
-upper-row : (copyFlag bits ci l r multiplicity : ℕ) → Words copyFlag bits ci l r multiplicity → isEnd ci l r ≡ false → (below : Section)
-    → IsSection 0 (bits + 1) ci (nextLhs ci l) (r / 2) 0 below
-    → IsSection copyFlag bits ci l r multiplicity (aboveSection copyFlag bits ci l r multiplicity below)
-upper-row copyFlag bits ci l r multiplicity w e (rows next more) s =
+upper-row : (q : Pending) → Fitting q → isLast q ≡ false → (below : Section)
+    → IsSection (nextPending q) below → IsSection q (aboveSection q below)
+upper-row q w e (rows next more) s =
     rw carried
     (record {
       first-is = refl;
       section-rows = record {
-        honest = honest-row copyFlag bits ci l r multiplicity w;
+        honest = honest-row q w;
         each = (s .section-rows .honest, s .section-rows .each);
         below = (linked, s .section-rows .below);
         ends = s .section-rows .ends;
         copyFlags = (ap (λ (row : Row). row .copyFlag) (s .first-is), s .section-rows .copyFlags);
         multiplicities = (ap (λ (row : Row). row .lookupMultiplicity) (s .first-is), s .section-rows .multiplicities);
       };
-      section-length = omega (arith, s .section-length, next-height ci l r e);
+      section-length = omega (arith, s .section-length, next-left q e);
     })
   where
-    flag-bit : ((copyFlag ≡ 0) × ((bits ≢ 0) × (multiplicity ≡ 0))) ⊎ ((copyFlag ≡ 1) × (bits ≡ 0)) → (copyFlag ≡ 0) ⊎ (copyFlag ≡ 1)
+    flag-bit : Flagged q → (q .copyFlag ≡ 0) ⊎ (q .copyFlag ≡ 1)
     flag-bit (inl f) = inl (f .0)
     flag-bit (inr f) = inr (f .0)
 
-    carried : carry ci copyFlag bits l r (next .result) ≡ Value (rowResult ci copyFlag bits l r)
+    carried : carry (q .ci) (q .copyFlag) (q .bits) (q .lhs) (q .rhs) (next .result) ≡ Value (resultOf q)
     carried =
-        ap (λ (row : Row). carry ci copyFlag bits l r (row .result)) (s .first-is)
-        ∙ carry-is ci (w .known) copyFlag bits l r (flag-bit (w .flag)) (lhs-below (honest-row copyFlag bits ci l r multiplicity w))
+        ap (λ (row : Row). carry (q .ci) (q .copyFlag) (q .bits) (q .lhs) (q .rhs) (row .result)) (s .first-is)
+        ∙ carry-is (q .ci) (w .known) (q .copyFlag) (q .bits) (q .lhs) (q .rhs) (flag-bit (w .flag)) (lhs-below (honest-row q w))
 
-    linked : TransitionZero (rowOf copyFlag bits ci l r multiplicity) next
+    linked : TransitionZero (rowOf q) next
     linked =
-        subst (TransitionZero (rowOf copyFlag bits ci l r multiplicity)) (sym (s .first-is))
-        (follows-zero (honest-row copyFlag bits ci l r multiplicity w)
-        (honest-row 0 (bits + 1) ci (nextLhs ci l) (r / 2) 0 (next-words copyFlag bits ci l r multiplicity w e))
-        (next-follows copyFlag bits ci l r multiplicity w e))
+        subst (TransitionZero (rowOf q)) (sym (s .first-is))
+        (follows-zero (honest-row q w) (honest-row (nextPending q) (next-fits q w e)) (next-follows q w e))
 
-section-from : (fuel copyFlag bits ci l r multiplicity : ℕ) → Words copyFlag bits ci l r multiplicity → height (entry ci l r) ≤ fuel
-    → IsSection copyFlag bits ci l r multiplicity (sectionFrom fuel copyFlag bits ci l r multiplicity)
-section-from zero copyFlag bits ci l r multiplicity w h = absurd (omega (arith, height-at-least (entry ci l r)))
-section-from (suc fuel) copyFlag bits ci l r multiplicity w h =
-    go (λ e. section-from fuel 0 (bits + 1) ci (nextLhs ci l) (r / 2) 0 (next-words copyFlag bits ci l r multiplicity w e)
-    (omega (arith, next-height ci l r e))) (isEnd ci l r) refl
+section-from : (fuel : ℕ) (q : Pending) → Fitting q → left q ≤ fuel → IsSection q (sectionFrom fuel q)
+section-from zero q w h = absurd (omega (arith, height-at-least (entry (q .ci) (q .lhs) (q .rhs))))
+section-from (suc fuel) q w h =
+    go (λ e. section-from fuel (nextPending q) (next-fits q w e) (omega (arith, next-left q e))) (isLast q) refl
   where
-    go : (isEnd ci l r ≡ false
-        → IsSection 0 (bits + 1) ci (nextLhs ci l) (r / 2) 0 (sectionFrom fuel 0 (bits + 1) ci (nextLhs ci l) (r / 2) 0))
-        → (t : Bool) → isEnd ci l r ≡ t
-        → IsSection copyFlag bits ci l r multiplicity (sectionFrom (suc fuel) copyFlag bits ci l r multiplicity)
-    go rest true e = rw (section-end fuel copyFlag bits ci l r multiplicity e) (last-row copyFlag bits ci l r multiplicity w e)
-    go rest false e =
-        rw (section-next fuel copyFlag bits ci l r multiplicity e)
-        (upper-row copyFlag bits ci l r multiplicity w e (sectionFrom fuel 0 (bits + 1) ci (nextLhs ci l) (r / 2) 0) (rest e))
+    go : (isLast q ≡ false → IsSection (nextPending q) (sectionFrom fuel (nextPending q)))
+        → (t : Bool) → isLast q ≡ t → IsSection q (sectionFrom (suc fuel) q)
+    go rest true e = rw (section-end fuel q e) (last-row q w e)
+    go rest false e = rw (section-next fuel q e) (upper-row q w e (sectionFrom fuel (nextPending q)) (rest e))
 
 -- ---- an entry's section
 pub record HonestSection (e : U32TableEntry) (multiplicity : ℕ) : Type 0 where
@@ -194,13 +195,13 @@ pub record HonestSection (e : U32TableEntry) (multiplicity : ℕ) : Type 0 where
   pub section-length : suc (length more) ≡ height e
 
 first-row-is : (e : U32TableEntry) (multiplicity : ℕ) → Admissible e
-    → rowOf 1 0 (e .opcode) (lhs e) (rhs e) multiplicity ≡ firstRow e multiplicity
+    → rowOf (firstPending e multiplicity) ≡ firstRow e multiplicity
 unfolding firstRow
 first-row-is e multiplicity a =
-    ap (λ (v : ℕ). sectionRow 1 0 (e .opcode) (lhs e) (rhs e) v multiplicity) (first-is (e .opcode) (lhs e) (rhs e) (a .log))
+    ap (λ (v : ℕ). sectionRow (firstPending e multiplicity) v) (first-is (e .opcode) (lhs e) (rhs e) (a .log))
 
-first-words : (e : U32TableEntry) (multiplicity : ℕ) → Admissible e → multiplicity < p → Words 1 0 (e .opcode) (lhs e) (rhs e) multiplicity
-first-words e multiplicity a m = record {
+first-fits : (e : U32TableEntry) (multiplicity : ℕ) → Admissible e → multiplicity < p → Fitting (firstPending e multiplicity)
+first-fits e multiplicity a m = record {
   known = opcode-cases (e .opcode) (a .known);
   flag = inr (refl, refl);
   lhs-limit = a .left;
@@ -214,9 +215,9 @@ pub honest-section : (e : U32TableEntry) (multiplicity : ℕ) → Admissible e �
 unfolding section
 honest-section e multiplicity a m =
     go (section e multiplicity) refl
-    (section-from 34 1 0 (e .opcode) (lhs e) (rhs e) multiplicity (first-words e multiplicity a m) (omega (arith, height-bound e a)))
+    (section-from 34 (firstPending e multiplicity) (first-fits e multiplicity a m) (omega (arith, height-bound e a)))
   where
-    go : (s : Section) → section e multiplicity ≡ s → IsSection 1 0 (e .opcode) (lhs e) (rhs e) multiplicity s → HonestSection e multiplicity
+    go : (s : Section) → section e multiplicity ≡ s → IsSection (firstPending e multiplicity) s → HonestSection e multiplicity
     go (rows first more) k s =
         let f = s .first-is ∙ first-row-is e multiplicity a in
         record {

@@ -14,7 +14,7 @@ use Rattle.field.proofs.Laws.{invF-product-word}
 use Rattle.isa.specs.Opcodes.{opLt, opLog2Floor, opAnd, opPopCount, opPow}
 use Rattle.isa.specs.PlainFunctions.{plainPow}
 use Rattle.isa.proofs.Entries.{OneOfSix}
-use Rattle.air.specs.Columns.{Row}
+use Rattle.table.specs.Columns.{Row}
 use Rattle.air.specs.Constraints as Poly
 use Rattle.air.proofs.Descent.{EndRow}
 use Rattle.air.proofs.Lists.{TransitionZero, TerminalZero}

@@ -13,18 +13,19 @@ use lib.Seq.{getD-append-add}
 use borrow.Author.Tests.{lt-ltb, ltb-true, ltb-false, eq-eqb}
 use Rattle.field.specs.Elements.{p, subF}
 use Rattle.xfield.specs.Extension.{Ext, zeroX, liftX, addX, subX, mulX, scaleX, HasInverse, Reduced, isZeroX}
-use Rattle.xfield.proofs.Inverses.{invX}
+use Rattle.xfield.specs.Inverses.{invX}
 use Rattle.xfield.proofs.Laws.{zeroX-reduced, addX-reduced, addX-zero-left, subX-self}
 use Rattle.xfield.proofs.Laws.{liftX-word, sum-stepped, sum-started}
-use Rattle.air.specs.Columns.{Row, rowAt, auxAt, elementAt, allReduced}
-use Rattle.air.specs.Challenges.{Challenges, challengesOf, rowDenominator}
-use Rattle.air.specs.RunningSum.{Summand, addSummand, runningSum, denominatorOk, denominatorsOk, summandAt}
+use Rattle.table.specs.Columns.{Row, rowAt, auxAt, elementAt, allReduced}
+use Rattle.table.specs.Challenges.{Challenges, challengesOf, rowDenominator}
+use Rattle.sums.specs.RunningSum.{Summand, addSummand, runningSum, denominatorOk, denominatorsOk}
+use Rattle.sums.specs.LookupSum.{summandAt}
 use Rattle.air.specs.Constraints as Poly
 use Rattle.air.specs.Constraints.{baseValue}
 use Rattle.air.proofs.Lists.{SumZero}
-use Rattle.air.proofs.RunningSums.{adds-nothing, adds-share}
-use Rattle.fill.specs.Extending.{elementWords, sumWords}
-use Rattle.extend.specs.Extensions.{summandOf}
+use Rattle.sums.proofs.RunningSums.{adds-nothing, adds-share}
+use Rattle.sums.specs.RunningSum.{elementWords, sumWords}
+use Rattle.sums.specs.LookupSum.{summandOf}
 use Rattle.four_calls.specs.FourCalls.{tableRowsTo, copyFlag1, noneZero, sumFrom}
 use Rattle.check_plain.proofs.Products.{same-zero}
 use Rattle.check_plain.proofs.Sums.{scale-zero, zero-scale, sum-stays, sum-accumulates}
@@ -72,36 +73,6 @@ module _ (c : Challenges) (row : Row) (bit : (row .copyFlag ≡ 0) ⊎ (row .cop
           (ap₂ (λ (x v : Ext). subX (mulX x (rowDenominator c row)) v) (adds-share zeroX (summandOf c row) f)
           (sym (liftX-word (row .lookupMultiplicity) m))
           ∙ sum-started (row .lookupMultiplicity) (rowDenominator c row) (invertible f)))
-
--- ---- the words of the sums
-reduced-join : (xs ys : List ℕ) → allReduced xs ≡ true → allReduced ys ≡ true → allReduced (xs ++ ys) ≡ true
-unfolding allReduced
-reduced-join [] ys h k = k
-reduced-join (x ∷ xs) ys h k =
-    let parts = and-eq-true-iff (ltb x p) (allReduced xs) .0 h in
-    and-eq-true-iff (ltb x p) (allReduced (xs ++ ys)) .1 (parts .0, reduced-join xs ys (parts .1) k)
-
-element-words-reduced : (x : Ext) → Reduced x → allReduced (elementWords x) ≡ true
-unfolding allReduced
-element-words-reduced x h = rw (lt-ltb _ p (h .a-below), lt-ltb _ p (h .b-below), lt-ltb _ p (h .c-below))
-
-module _ (s : ℕ → Summand) where
-  pub sum-reduced : (n : ℕ) → Reduced (runningSum s n)
-  unfolding runningSum addSummand
-  sum-reduced zero = zeroX-reduced
-  sum-reduced (suc n) = either (eqb (s n .flag) 1) (sum-reduced n)
-    where
-      either : (t : Bool) → Reduced (runningSum s n)
-          → Reduced (cond t (addX (runningSum s n) (scaleX (s n .multiplicity) (invX (s n .denominator)))) (runningSum s n))
-      either true h = addX-reduced _ _
-      either false h = h
-
-  pub sums-reduced : (n : ℕ) → allReduced (sumWords s n) ≡ true
-  unfolding sumWords allReduced
-  sums-reduced zero = refl
-  sums-reduced (suc n) =
-      reduced-join (sumWords s n) (elementWords (runningSum s (suc n))) (sums-reduced n)
-      (element-words-reduced (runningSum s (suc n)) (sum-reduced (suc n)))
 
 -- ---- only the CopyFlag 1 rows count, for the denominators and for the sum
 module _ (table challenges : List ℕ) where

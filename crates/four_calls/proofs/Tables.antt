@@ -19,11 +19,11 @@ use Rattle.isa.specs.PlainFunctions.{plainResult}
 use Rattle.isa.proofs.Entries.{Admissible}
 use Rattle.list.specs.Lists.{U32List, entryAt, multiplicityAt}
 use Rattle.list.specs.Heights.{entriesAt, sumHeights}
-use Rattle.air.specs.Columns.{Row}
+use Rattle.table.specs.Columns.{Row}
 use Rattle.air.proofs.Descent.{EndRow}
 use Rattle.air.proofs.Lists.{TransitionZero}
 use Rattle.fill_sections.specs.Sections.{nextLhs, firstRow}
-use Rattle.fill.specs.Filling.{joined, sectionsAt}
+use Rattle.fill.specs.Filling.{sectionsAt}
 use Rattle.fill.specs.Padding.{paddingRow, noRow}
 use Rattle.four_calls.specs.FourCalls.{copyFlag1, firstRowsAt}
 use Rattle.four_calls.proofs.Results.{rowResult, at-split, lt-equal-below, log-none}
@@ -137,7 +137,7 @@ pub record PlaceOk (l : U32List) (i : ℕ) : Type 0 where
 
 pub record HonestSections (l : U32List) (places : List ℕ) : Type 0 where
   pub all-rows : List Row
-  pub sections-are : sectionsAt l places ≡ joined all-rows
+  pub sections-are : sectionsAt l places ≡ all-rows
   pub chain : (a : Row) → EndRow a → Chain a all-rows
   pub first-rows : copyFlag1 all-rows ≡ firstRowsAt l places
   pub row-count : length all-rows ≡ sumHeights (entriesAt l places)

@@ -10,7 +10,7 @@ use Rattle.isa.specs.PlainFunctions.{plainResult}
 use Rattle.isa.specs.declared.U32TableEntry.{U32TableEntry}
 use Rattle.isa.specs.Entries.{lhs, rhs, entry, height}
 use Rattle.list.specs.Lists.{U32List, u32List}
-use Rattle.air.specs.Columns.{mainWidth, rowAt}
+use Rattle.table.specs.Columns.{mainWidth, rowAt}
 use Rattle.fill_results.specs.declared.Choice.the-variants.{Value}
 use Rattle.fill_sections.specs.Sections.{section, topResult}
 use Rattle.four_calls.specs.FourCalls.{paddedTable}

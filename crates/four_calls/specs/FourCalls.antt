@@ -11,13 +11,13 @@ use Rattle.words.specs.Refusals.{declineIf, orElse}
 use Rattle.words.specs.declared.Judgement.{Judgement}
 use Rattle.words.specs.declared.Refusal.the-variants.{Shape, Unreduced, Flat}
 use Rattle.xfield.specs.Extension.{Ext, zeroX, addX, scaleX, isZeroX}
-use Rattle.xfield.proofs.Inverses.{invX}
+use Rattle.xfield.specs.Inverses.{invX}
 use Rattle.list.specs.Lists.{U32List, entryAt, multiplicityAt}
 use Rattle.list.specs.Heights.{sectionPlaces}
-use Rattle.air.specs.Columns.{Row, rowAt, rowCount, auxShape, allReduced}
-use Rattle.air.specs.Challenges.{Challenges, challengesOf, challengesShape, rowDenominator}
-use Rattle.air.specs.RunningSum.{lookupSum}
-use Rattle.air.specs.Check.{checkAll}
+use Rattle.table.specs.Columns.{Row, rowAt, rowCount, auxShape, allReduced}
+use Rattle.table.specs.Challenges.{Challenges, challengesOf, challengesShape, rowDenominator}
+use Rattle.sums.specs.LookupSum.{lookupSum}
+use Rattle.air.specs.Check.{zeroAnswer, checkAll}
 use Rattle.fill_sections.specs.Sections.{firstRow}
 use Rattle.fill.specs.Filling.{fillAll}
 use Rattle.fill.specs.Padding.{padAll}
@@ -59,13 +59,13 @@ sumFrom c sum (r ∷ rs) = sumFrom c (addX sum (scaleX (r .lookupMultiplicity) (
 
 -- ---- the calls, each on what the one before answered or left: pad takes the height that fill answered
 abbrev pub filledTable : U32List → List ℕ → List ℕ
-filledTable l table = fillAll l table .table
+filledTable l table = fillAll l table .left
 
 abbrev pub paddedTable : U32List → List ℕ → ℕ → List ℕ
-paddedTable l table height = padAll (filledTable l table) height .table
+paddedTable l table height = padAll (filledTable l table) height .left
 
 abbrev pub extendedAux : U32List → List ℕ → ℕ → List ℕ → List ℕ → List ℕ
-extendedAux l table height aux challenges = extendAll (paddedTable l table height) aux challenges .aux
+extendedAux l table height aux challenges = extendAll (paddedTable l table height) aux challenges .left
 
 -- none of the three calls before the check refuses
 pub record NoneRefuses (l : U32List) (table aux challenges : List ℕ) (height : ℕ) (sum : List ℕ) : Type 0 where
@@ -76,7 +76,7 @@ pub record NoneRefuses (l : U32List) (table aux challenges : List ℕ) (height :
 -- the CopyFlag 1 rows of a table are the first rows of a list, and the check answers zero
 pub record Honest (l : U32List) (table aux challenges : List ℕ) : Type 0 where
   pub first-rows : copyFlag1Rows table ≡ firstRows l
-  pub zero : checkAll table aux challenges ≡ done []
+  pub zero : checkAll table aux challenges ≡ zeroAnswer
 
 -- ---- what can still be refused once fill has answered a height: nothing of the table
 -- "Extend 1, 8, 9": 1 for aux and challenges alone, 8 for the challenges alone, 9 where a first row's denominator is zero

@@ -5,14 +5,14 @@ use mathlib.Core.List.{List, []}
 use Rattle.words.specs.Answers.{done}
 use Rattle.list.specs.Lists.{U32List}
 use Rattle.list.specs.Heights.{sectionEntries}
-use Rattle.air.specs.Columns.{rowCount}
-use Rattle.air.specs.Check.{checkAll}
+use Rattle.table.specs.Columns.{rowCount}
+use Rattle.air.specs.Check.{zeroAnswer, checkAll}
 use Rattle.row_bound.specs.OwnRows.{OwnRows}
 use Rattle.four_calls.specs.FourCalls.{paddedTable, extendedAux, NoneRefuses}
 
 -- a table passes the check, and each entry of the list has a CopyFlag 1 row of its own there
 pub record HonestFor (l : U32List) (table aux challenges : List ℕ) : Type 0 where
-  pub zero : checkAll table aux challenges ≡ done []
+  pub zero : checkAll table aux challenges ≡ zeroAnswer
   pub own : ℕ → ℕ
   pub own-rows : OwnRows table (sectionEntries l) own
 

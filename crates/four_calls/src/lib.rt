@@ -2,12 +2,12 @@
 // makes the four calls.
 ghost use Rattle.list.specs.Lists.{u32List};
 ghost use Rattle.check_table.specs.Verdicts.{verdictAnswer};
-ghost use Rattle.four_calls.specs.Run.{runAll, IsRun, RunsHonestly, RefusesNoMore};
+ghost use Rattle.four_calls.specs.Run.{Ran, RunsHonestly, RefusesNoMore};
 use check_table::Verdict;
 use extend::Extended;
 use fill::Filled;
-use fill::Padded;
 use list::Sizes;
+use words::Completed;
 
 // Fills and pads the table, extends it and checks it. Answers the verdict, or the reason of the first call that refuses: then the calls
 // after it are not made, and what the calls before it have written stays.
@@ -19,15 +19,15 @@ pub fn run(
     aux: &mut [u64],
     challenges: &[u64],
 ) -> Verdict
-    ensures exact { λ r. ⌜ IsRun (runAll (u32List sizes (now (keys .entry)) (now (multiplicities .entry))) (now (table .entry)) (now (aux .entry)) (now (challenges .entry))) (verdictAnswer r) (now (table .exit)) (now (aux .exit)) ⌝ }
+    ensures exact { λ r. ⌜ Ran (u32List sizes (now (keys .entry)) (now (multiplicities .entry))) (now (table .entry)) (now (aux .entry)) (now (challenges .entry)) (verdictAnswer r) (now (table .exit)) (now (aux .exit)) ⌝ }
     ensures claim { λ r. ⌜ RunsHonestly (u32List sizes (now (keys .entry)) (now (multiplicities .entry))) (verdictAnswer r) (now (table .exit)) ⌝ }
     ensures no_other_refusal { λ r. ⌜ RefusesNoMore (u32List sizes (now (keys .entry)) (now (multiplicities .entry))) (now (table .entry)) (now (aux .entry)) (now (challenges .entry)) (verdictAnswer r) ⌝ }
 {
     match fill::fill(sizes, keys, multiplicities, table) {
         Filled::Refused(reason) => Verdict::Refused(reason),
         Filled::Rows(height) => match fill::pad(table, height as usize) {
-            Padded::Refused(reason) => Verdict::Refused(reason),
-            Padded::Done => match extend::extend(table, aux, challenges) {
+            Completed::Refused(reason) => Verdict::Refused(reason),
+            Completed::Done => match extend::extend(table, aux, challenges) {
                 Extended::Refused(reason) => Verdict::Refused(reason),
                 Extended::Sum(_) => check_table::check(table, aux, challenges),
             },

@@ -1,10 +1,12 @@
--- The order of entries: only equal entries compare equal, and exchanging the two exchanges less and greater. Shown for one word and carried
--- through the three.
+-- `compare` is a total order: an entry compares equal with itself (compare-same) and with no other (compare-equal), exchanging the two
+-- exchanges less and greater (compare-reversed), and less than less is less (compare-transitive). Shown for one word and carried through the
+-- three.
 use mathlib.Core.Path.{_≡_, refl, ap, _∙_}
 use mathlib.Core.Bool.{Bool, true, false, cond}
-use Prim.Native.Nat.{ℕ}
+use mathlib.Core.Logic.{_⊎_, inl, inr}
+use Prim.Native.Nat.{ℕ, _<_}
 use native.Mathlib.Omega.{arith}
-use borrow.Author.Tests.{le-ltb, ltb-true, ltb-false}
+use borrow.Author.Tests.{lt-ltb, le-ltb, ltb-true, ltb-false}
 use lib.Dec.{ltb}
 use Rattle.isa.specs.declared.U32TableEntry.{U32TableEntry}
 use Rattle.isa.specs.declared.Order.{Order}
@@ -36,6 +38,26 @@ words-reversed a b next = go (ltb a b) (ltb b a) refl refl where
   go false true p q = rw (p, q)
   go false false p q = rw (p, q)
 
+words-less : (a b : ℕ) (next : Order) → compareWords a b next ≡ Less → (a < b) ⊎ ((a ≡ b) × (next ≡ Less))
+words-less a b next e = go (ltb a b) (ltb b a) refl refl e where
+  go : (s t : Bool) → ltb a b ≡ s → ltb b a ≡ t → cond s Less (cond t Greater next) ≡ Less → (a < b) ⊎ ((a ≡ b) × (next ≡ Less))
+  go true t p q z = inl (ltb-true a b p)
+  go false true p q z = absurd (let w : _≡_ {A = ℕ} 0 1 = cc in omega arith)
+  go false false p q z = inr (omega (arith, ltb-false a b p, ltb-false b a q), z)
+
+below-less : (a b : ℕ) (next : Order) → a < b → compareWords a b next ≡ Less
+below-less a b next l = rw (lt-ltb a b l)
+
+-- words-less of a and b, of b and c; where all three are equal, the words after them decide
+words-transitive : (a b c : ℕ) (m n o : Order) → (m ≡ Less → n ≡ Less → o ≡ Less)
+    → compareWords a b m ≡ Less → compareWords b c n ≡ Less → compareWords a c o ≡ Less
+words-transitive a b c m n o next e f = go (words-less a b m e) (words-less b c n f) where
+  go : (a < b) ⊎ ((a ≡ b) × (m ≡ Less)) → (b < c) ⊎ ((b ≡ c) × (n ≡ Less)) → compareWords a c o ≡ Less
+  go (inl p) (inl q) = below-less a c o (omega arith)
+  go (inl p) (inr q) = below-less a c o (omega (arith, q .0))
+  go (inr p) (inl q) = below-less a c o (omega (arith, p .0))
+  go (inr p) (inr q) = rw (p .0, q .0) (words-same c o ∙ next (p .1) (q .1))
+
 -- ---- entries
 
 pub entries-same : {x y : U32TableEntry} → x .opcode ≡ y .opcode → lhs x ≡ lhs y → rhs x ≡ rhs y → x ≡ y
@@ -61,3 +83,10 @@ compare-reversed x y =
     ap (λ (o : Order). compareWords (y .opcode) (x .opcode) (compareWords (lhs y) (lhs x) o)) (words-reversed (rhs x) (rhs y) Equal)
     ∙ ap (λ (o : Order). compareWords (y .opcode) (x .opcode) o) (words-reversed (lhs x) (lhs y) _)
     ∙ words-reversed (x .opcode) (y .opcode) _
+
+pub compare-transitive : (x y z : U32TableEntry) → compareEntries x y ≡ Less → compareEntries y z ≡ Less → compareEntries x z ≡ Less
+unfolding compareEntries
+compare-transitive x y z =
+    words-transitive (x .opcode) (y .opcode) (z .opcode) _ _ _
+    (words-transitive (lhs x) (lhs y) (lhs z) _ _ _
+    (words-transitive (rhs x) (rhs y) (rhs z) Equal Equal Equal (λ e f. e)))

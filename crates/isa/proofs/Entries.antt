@@ -18,7 +18,7 @@ use Rattle.words.proofs.Judgements.{decline-fine, decline-not-fine, decline-not
 use Rattle.isa.specs.Opcodes.{opSplit, opLt, opLog2Floor, opAnd, opPopCount, opPow, isOpcode}
 use Rattle.isa.specs.declared.U32TableEntry.{U32TableEntry}
 use Rattle.isa.specs.declared.Admission.the-variants.{Admitted, Refused}
-use Rattle.isa.specs.Entries.{lhs, rhs, entry, lhsLimit, rhsLimit, judgeEntry, admitted, admission, admit, dominant, heightOf, height}
+use Rattle.isa.specs.Entries.{lhs, rhs, entry, lhsLimit, rhsLimit, judgeEntry, admitStored, admitted, admission, admit, dominant, heightOf, height}
 use Rattle.isa.proofs.Logarithm.{height-zero, height-half, height-below, height-positive}
 
 -- ---- opcodes
@@ -128,6 +128,23 @@ admissible-fine e a =
     bare true k = ne-eqb (lhs e) 0 (a .log (eqb-true _ _ k))
     bare false k = refl
 
+-- an entry that is admissible is handed back as it is
+pub admissible-same : (e : U32TableEntry) → Admissible e → admitted e ≡ e
+unfolding admitted
+admissible-same e a = refl
+
+-- the rule of stored bytes finds nothing exactly where the entry is admissible as it stands
+pub as-it-is-admissible : (e : U32TableEntry) → admitStored e ≡ Fine → Admissible e
+unfolding admitStored admitted
+as-it-is-admissible e f = fine-admissible e f
+
+pub admissible-as-it-is : (e : U32TableEntry) → Admissible e → admitStored e ≡ Fine
+unfolding admitStored
+admissible-as-it-is e a = admissible-fine e a
+
+pub as-it-is : (e : U32TableEntry) → admitStored e ≡ Fine → (judgeEntry e ≡ Fine) × (admitted e ≡ e)
+as-it-is e f = let a = as-it-is-admissible e f in (admissible-fine e a, admissible-same e a)
+
 module _ (e : U32TableEntry) where
   -- opcode and RHS stay, whatever is handed back
   pub opcode-admitted : admitted e .opcode ≡ e .opcode
@@ -137,6 +154,11 @@ module _ (e : U32TableEntry) where
   pub rhs-admitted : rhs (admitted e) ≡ rhs e
   unfolding admitted
   rhs-admitted = refl
+
+  -- and LHS, since the same entry is handed back
+  pub lhs-admitted : lhs (admitted e) ≡ lhs e
+  unfolding admitted
+  lhs-admitted = refl
 
   -- what is handed back is itself admitted, as it is
   pub judge-admitted : judgeEntry e ≡ Fine → judgeEntry (admitted e) ≡ Fine
@@ -154,19 +176,22 @@ module _ (e : U32TableEntry) where
   unfolding admit
   admit-declined f = rw f
 
+  -- what an answer tells, whichever rule judged
+  pub admission-admitted : (j : Judgement) {a : U32TableEntry} → admission j e ≡ Admitted a → (j ≡ Fine) × (a ≡ admitted e)
+  admission-admitted Fine f = (refl, cc)
+  admission-admitted (Declined k) f = absurd (let w : _≡_ {A = ℕ} 0 1 = cc in omega arith)
+
+  pub admission-refused : (j : Judgement) {k : Refusal} → admission j e ≡ Refused k → j ≡ Declined k
+  admission-refused Fine f = absurd (let w : _≡_ {A = ℕ} 0 1 = cc in omega arith)
+  admission-refused (Declined i) f = cc
+
   pub admit-admitted : {a : U32TableEntry} → admit e ≡ Admitted a → (judgeEntry e ≡ Fine) × (a ≡ admitted e)
   unfolding admit
-  admit-admitted {a} f = go (judgeEntry e) refl f where
-    go : (j : Judgement) → judgeEntry e ≡ j → admission j e ≡ Admitted a → (judgeEntry e ≡ Fine) × (a ≡ admitted e)
-    go Fine q z = (q, cc)
-    go (Declined k) q z = absurd (let w : _≡_ {A = ℕ} 0 1 = cc in omega arith)
+  admit-admitted f = admission-admitted (judgeEntry e) f
 
   pub admit-refused : {k : Refusal} → admit e ≡ Refused k → judgeEntry e ≡ Declined k
   unfolding admit
-  admit-refused {k} f = go (judgeEntry e) refl f where
-    go : (j : Judgement) → judgeEntry e ≡ j → admission j e ≡ Refused k → judgeEntry e ≡ Declined k
-    go Fine q z = absurd (let w : _≡_ {A = ℕ} 0 1 = cc in omega arith)
-    go (Declined i) q z = q ∙ cc
+  admit-refused f = admission-refused (judgeEntry e) f
 
 -- ---- bounds on the words of an admissible entry
 

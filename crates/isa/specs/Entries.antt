@@ -1,6 +1,7 @@
 -- Entry and height (document 01, under that heading): admission, the height of an entry, the order of entries.
 use Prim.Native.Nat.{ℕ, _+_, max}
 use mathlib.Core.Bool.{cond, not, _&&_}
+use mathlib.Core.List.{List, [], _∷_}
 use lib.Dec.{eqb, ltb}
 use Rattle.field.specs.Elements.{p}
 use Rattle.words.specs.declared.Refusal.the-variants.{Stranger, Wide, BareLog}
@@ -25,6 +26,13 @@ rhs e = e .«right_operand»
 abbrev pub entry : ℕ → ℕ → ℕ → U32TableEntry
 entry o l r = record { opcode = o; «left_operand» = l; «right_operand» = r }
 
+-- its words, in that order, and how many they are
+abbrev pub entryWords : U32TableEntry → List ℕ
+entryWords e = e .opcode ∷ lhs e ∷ rhs e ∷ []
+
+abbrev pub entryWidth : ℕ
+entryWidth = 3
+
 -- "both operands below 2^32, but LHS of pow below p"
 abbrev pub lhsLimit : ℕ → ℕ
 lhsLimit opcode = cond (eqb opcode opPow) p 4294967296
@@ -39,10 +47,15 @@ judgeEntry e =
     (orElse (declineIf (not (ltb (lhs e) (lhsLimit (e .opcode)) && ltb (rhs e) rhsLimit)) Wide)
     (declineIf (eqb (e .opcode) opLog2Floor && eqb (lhs e) 0) BareLog))
 
+-- The same for an entry in stored bytes, which is taken as it stands there: reading has a rule of its own name
+unfoldable pub admitStored : U32TableEntry → Judgement
+admitStored e = judgeEntry e
+
 -- The entry that admission hands back: the same one
 unfoldable pub admitted : U32TableEntry → U32TableEntry
 admitted e = e
 
+-- what is handed back after a rule's judgement
 abbrev pub admission : Judgement → U32TableEntry → Admission
 admission Fine e = Admitted (admitted e)
 admission (Declined reason) e = Refused reason

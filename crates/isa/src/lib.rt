@@ -5,8 +5,8 @@ ghost use mathlib.Core.Bool.{not, _&&_};
 ghost use lib.Dec.{ltb};
 ghost use Rattle.words.specs.declared.Refusal.the-variants.{Wide};
 ghost use Rattle.words.specs.Refusals.{declineIf};
-ghost use Rattle.isa.specs.Entries.{lhs, rhs, rhsLimit, entry, judgeEntry, dominant, height, compareWords, compareEntries};
-ghost use Rattle.isa.specs.Entries.{admit as Entries·admit};
+ghost use Rattle.isa.specs.Entries.{lhs, rhs, rhsLimit, entry, judgeEntry, admitStored, admitted, dominant, height, compareWords, compareEntries};
+ghost use Rattle.isa.specs.Entries.{admission as Entries·admission, admit as Entries·admit};
 ghost use Rattle.isa.specs.PlainFunctions.{floorLog2};
 use field::BFieldElement;
 use words::Judgement;
@@ -46,6 +46,9 @@ pub enum Order {
 }
 
 impl U32TableEntry {
+    // The words of an entry, each of its fields one.
+    pub const WIDTH: usize = 3;
+
     pub fn new(opcode: u64, left_operand: u64, right_operand: u64) -> Self
         ensures { λ r. ⌜ r ≡ entry opcode «left_operand» «right_operand» ⌝ }
     {
@@ -90,14 +93,36 @@ impl U32TableEntry {
         }
     }
 
+    // The entry that admission hands back: the same one.
+    pub fn reduced(self) -> Self
+        ensures { λ r. ⌜ r ≡ admitted self ⌝ }
+    {
+        Self::new(self.opcode, self.left_operand, self.right_operand)
+    }
+
+    // What is handed back after a judgement of the entry.
+    fn admission(self, judgement: Judgement) -> Admission
+        ensures { λ r. ⌜ r ≡ Entries·admission judgement self ⌝ }
+    {
+        match judgement {
+            Judgement::Fine => Admission::Admitted(self.reduced()),
+            Judgement::Declined(reason) => Admission::Refused(reason),
+        }
+    }
+
     // The entry as it is admitted, or why it is refused.
     pub fn admit(self) -> Admission
         ensures { λ r. ⌜ r ≡ Entries·admit self ⌝ }
     {
-        match self.judge() {
-            Judgement::Fine => Admission::Admitted(self),
-            Judgement::Declined(reason) => Admission::Refused(reason),
-        }
+        self.admission(self.judge())
+    }
+
+    // The same for an entry in stored bytes, which has a rule of its own.
+    pub fn admit_stored(self) -> Admission
+        ensures { λ r. ⌜ r ≡ Entries·admission (admitStored self) self ⌝ }
+    {
+        let judgement = self.judge();
+        self.admission(judgement)
     }
 
     // The operand that decides how many rows the entry takes.

@@ -1,7 +1,7 @@
 -- What a search finds. find-hit, find-miss and find-none are its steps, for a loop that goes from place i to n. find-within, find-holds and
--- find-first say what the place is: the first used one that holds the key, or `used` where none does. Assumes nothing.
+-- find-first say what the place is: the first used one whose entry is the key's, or `used` where none is. Assumes nothing.
 use Prim.Native.Nat.{ℕ, zero, suc, _+_, _*_, _-_, _≤_, _<_}
-use mathlib.Core.Path.{_≡_, refl, ap, _∙_, subst}
+use mathlib.Core.Path.{_≡_, refl, sym, ap, _∙_, subst}
 use mathlib.Core.Bool.{Bool, true, false, _&&_}
 use mathlib.Core.Logic.{_≢_, ⊎-elim}
 use mathlib.Core.List.{List}
@@ -13,8 +13,9 @@ use lib.ListN.{getD}
 use borrow.Author.Count.{below-none, below-more}
 use borrow.Author.Tests.{eqb-true, eq-eqb, ne-eqb}
 use Rattle.isa.specs.declared.U32TableEntry.{U32TableEntry}
-use Rattle.isa.specs.Entries.{lhs, rhs, entry}
-use Rattle.list.specs.Lists.{U32List, used, keyAt}
+use Rattle.isa.specs.Entries.{lhs, rhs, entry, entryWidth}
+use Rattle.isa.proofs.Entries.{lhs-admitted}
+use Rattle.list.specs.Lists.{U32List, used, keyAt, entryAt}
 use Rattle.list.specs.Keys.{sameKey, findFrom, findKey}
 use Rattle.list.specs.Eights.{EightDiffer}
 
@@ -42,11 +43,11 @@ same-key-self a = simp (eq-eqb (a .opcode) (a .opcode) refl, eq-eqb (lhs a) (lhs
 -- ---- a search
 
 module _ (l : U32List) (e : U32TableEntry) where
-  pub find-hit : (i n : ℕ) → i < n → sameKey (keyAt l i) e ≡ true → findFrom l e i (n - i) ≡ i
+  pub find-hit : (i n : ℕ) → i < n → sameKey (entryAt l i) e ≡ true → findFrom l e i (n - i) ≡ i
   unfolding findFrom
   find-hit i n h s = let d : n - i ≡ suc (n - (i + 1)) = omega arith in rw d (simp s)
 
-  pub find-miss : (i n : ℕ) → i < n → sameKey (keyAt l i) e ≡ false → findFrom l e i (n - i) ≡ findFrom l e (i + 1) (n - (i + 1))
+  pub find-miss : (i n : ℕ) → i < n → sameKey (entryAt l i) e ≡ false → findFrom l e i (n - i) ≡ findFrom l e (i + 1) (n - (i + 1))
   unfolding findFrom
   find-miss i n h s = let d : n - i ≡ suc (n - (i + 1)) = omega arith in rw d (simp (s, add-one i))
 
@@ -57,37 +58,37 @@ module _ (l : U32List) (e : U32TableEntry) where
   find-from-within : (i n : ℕ) → findFrom l e i n ≤ i + n
   unfolding findFrom
   find-from-within i zero = omega arith
-  find-from-within i (suc n) = go (find-from-within (suc i) n) (sameKey (keyAt l i) e) refl where
-    go : findFrom l e (suc i) n ≤ suc i + n → (t : Bool) → sameKey (keyAt l i) e ≡ t → findFrom l e i (suc n) ≤ i + suc n
+  find-from-within i (suc n) = go (find-from-within (suc i) n) (sameKey (entryAt l i) e) refl where
+    go : findFrom l e (suc i) n ≤ suc i + n → (t : Bool) → sameKey (entryAt l i) e ≡ t → findFrom l e i (suc n) ≤ i + suc n
     go rest true s = rw s (omega arith)
     go rest false s = rw s (omega arith)
 
-  find-from-holds : (i n : ℕ) → findFrom l e i n < i + n → sameKey (keyAt l (findFrom l e i n)) e ≡ true
+  find-from-holds : (i n : ℕ) → findFrom l e i n < i + n → sameKey (entryAt l (findFrom l e i n)) e ≡ true
   unfolding findFrom
   find-from-holds i zero h = absurd (omega arith)
-  find-from-holds i (suc n) h = go (find-from-holds (suc i) n) (sameKey (keyAt l i) e) refl h where
-    go : (findFrom l e (suc i) n < suc i + n → sameKey (keyAt l (findFrom l e (suc i) n)) e ≡ true)
-        → (t : Bool) → sameKey (keyAt l i) e ≡ t → findFrom l e i (suc n) < i + suc n → sameKey (keyAt l (findFrom l e i (suc n))) e ≡ true
+  find-from-holds i (suc n) h = go (find-from-holds (suc i) n) (sameKey (entryAt l i) e) refl h where
+    go : (findFrom l e (suc i) n < suc i + n → sameKey (entryAt l (findFrom l e (suc i) n)) e ≡ true)
+        → (t : Bool) → sameKey (entryAt l i) e ≡ t → findFrom l e i (suc n) < i + suc n → sameKey (entryAt l (findFrom l e i (suc n))) e ≡ true
     go rest true s h = rw s s
     go rest false s h = rw s (rest (let g = rw s at h in omega arith))
 
-  find-from-first : (i n j : ℕ) → i ≤ j → j < findFrom l e i n → sameKey (keyAt l j) e ≡ false
+  find-from-first : (i n j : ℕ) → i ≤ j → j < findFrom l e i n → sameKey (entryAt l j) e ≡ false
   unfolding findFrom
   find-from-first i zero j a b = absurd (omega arith)
-  find-from-first i (suc n) j a b = go (find-from-first (suc i) n j) (sameKey (keyAt l i) e) refl where
-    go : (suc i ≤ j → j < findFrom l e (suc i) n → sameKey (keyAt l j) e ≡ false)
-        → (t : Bool) → sameKey (keyAt l i) e ≡ t → sameKey (keyAt l j) e ≡ false
+  find-from-first i (suc n) j a b = go (find-from-first (suc i) n j) (sameKey (entryAt l i) e) refl where
+    go : (suc i ≤ j → j < findFrom l e (suc i) n → sameKey (entryAt l j) e ≡ false)
+        → (t : Bool) → sameKey (entryAt l i) e ≡ t → sameKey (entryAt l j) e ≡ false
     go rest true s = absurd (let g = rw s at b in omega arith)
     go rest false s =
         ⊎-elim
-        (λ (q : i ≡ j). subst (λ (x : ℕ). sameKey (keyAt l x) e ≡ false) q s)
+        (λ (q : i ≡ j). subst (λ (x : ℕ). sameKey (entryAt l x) e ≡ false) q s)
         (λ (q : i < j). rest q (rw s at b))
         (eq-or-lt-of-le a)
 
 -- ---- eight places with another LHS are passed at once
 
 module _ (l : U32List) (e : U32TableEntry) where
-  find-misses : (k i n : ℕ) → i + k ≤ n → ((j : ℕ) → j < k → sameKey (keyAt l (i + j)) e ≡ false)
+  find-misses : (k i n : ℕ) → i + k ≤ n → ((j : ℕ) → j < k → sameKey (entryAt l (i + j)) e ≡ false)
       → findFrom l e i (n - i) ≡ findFrom l e (i + k) (n - (i + k))
   find-misses zero i n h f = ap (λ (j : ℕ). findFrom l e j (n - j)) (omega arith)
   find-misses (suc k) i n h f =
@@ -95,9 +96,11 @@ module _ (l : U32List) (e : U32TableEntry) where
       ∙ find-miss l e (i + k) n (omega arith) (f k (omega arith))
       ∙ ap (λ (j : ℕ). findFrom l e j (n - j)) (omega arith)
 
-  other-lhs : (i : ℕ) → getD (l .keys) (3 * i + 1) 0 ≢ lhs e → sameKey (keyAt l i) e ≡ false
-  unfolding sameKey keyAt
-  other-lhs i h = go (eqb (getD (l .keys) (3 * i) 0) (e .opcode)) _ _ (ne-eqb _ _ h)
+  -- Another word where LHS stands: another entry. This is the one place where it counts that admission leaves LHS as it is
+  differ-by-lhs : (i : ℕ) → getD (l .keys) (entryWidth * i + 1) 0 ≢ lhs e → sameKey (entryAt l i) e ≡ false
+  unfolding sameKey entryAt keyAt
+  differ-by-lhs i h =
+      go (eqb (entryAt l i .opcode) (e .opcode)) _ _ (ne-eqb (lhs (entryAt l i)) (lhs e) (λ q. h (sym (lhs-admitted (keyAt l i)) ∙ q)))
     where
       go : (t s r : Bool) → s ≡ false → (t && (s && r)) ≡ false
       go true s r d = rw d
@@ -107,11 +110,11 @@ module _ (l : U32List) (e : U32TableEntry) where
       → findFrom l e i (n - i) ≡ findFrom l e next (n - next)
   unfolding EightDiffer
   find-eight i next n q h d =
-      find-misses 8 i n (omega arith) (λ j b. other-lhs (i + j) (d j b)) ∙ ap (λ (j : ℕ). findFrom l e j (n - j)) q
+      find-misses 8 i n (omega arith) (λ j b. differ-by-lhs (i + j) (d j b)) ∙ ap (λ (j : ℕ). findFrom l e j (n - j)) q
 
 pub eight-differ : (keys : List ℕ) (i lhs : ℕ)
-    → getD keys (3 * i + 1) 0 ≢ lhs → getD keys (3 * i + 4) 0 ≢ lhs → getD keys (3 * i + 7) 0 ≢ lhs → getD keys (3 * i + 10) 0 ≢ lhs
-    → getD keys (3 * i + 13) 0 ≢ lhs → getD keys (3 * i + 16) 0 ≢ lhs → getD keys (3 * i + 19) 0 ≢ lhs → getD keys (3 * i + 22) 0 ≢ lhs
+    → getD keys (entryWidth * i + 1) 0 ≢ lhs → getD keys (entryWidth * i + 4) 0 ≢ lhs → getD keys (entryWidth * i + 7) 0 ≢ lhs → getD keys (entryWidth * i + 10) 0 ≢ lhs
+    → getD keys (entryWidth * i + 13) 0 ≢ lhs → getD keys (entryWidth * i + 16) 0 ≢ lhs → getD keys (entryWidth * i + 19) 0 ≢ lhs → getD keys (entryWidth * i + 22) 0 ≢ lhs
     → EightDiffer keys i lhs
 unfolding EightDiffer
 eight-differ keys i lhs a b c d e f g h =
@@ -119,9 +122,9 @@ eight-differ keys i lhs a b c d e f g h =
     (below-none P) (at 0 a)) (at 1 b)) (at 2 c)) (at 3 d)) (at 4 e)) (at 5 f)) (at 6 g)) (at 7 h)
   where
     P : ℕ → Type 0
-    P k = getD keys (3 * (i + k) + 1) 0 ≢ lhs
+    P k = getD keys (entryWidth * (i + k) + 1) 0 ≢ lhs
 
-    at : (k : ℕ) → getD keys (3 * i + (3 * k + 1)) 0 ≢ lhs → P k
+    at : (k : ℕ) → getD keys (entryWidth * i + (entryWidth * k + 1)) 0 ≢ lhs → P k
     at k n = subst (λ (j : ℕ). getD keys j 0 ≢ lhs) (omega arith) n
 
 -- ---- the first used place
@@ -130,10 +133,10 @@ pub find-within : (l : U32List) (e : U32TableEntry) → findKey l e ≤ used l
 unfolding findKey
 find-within l e = omega (arith, find-from-within l e 0 (used l))
 
-pub find-holds : (l : U32List) (e : U32TableEntry) → findKey l e < used l → sameKey (keyAt l (findKey l e)) e ≡ true
+pub find-holds : (l : U32List) (e : U32TableEntry) → findKey l e < used l → sameKey (entryAt l (findKey l e)) e ≡ true
 unfolding findKey
 find-holds l e h = find-from-holds l e 0 (used l) (omega arith)
 
-pub find-first : (l : U32List) (e : U32TableEntry) (j : ℕ) → j < findKey l e → sameKey (keyAt l j) e ≡ false
+pub find-first : (l : U32List) (e : U32TableEntry) (j : ℕ) → j < findKey l e → sameKey (entryAt l j) e ≡ false
 unfolding findKey
 find-first l e j h = find-from-first l e 0 (used l) j (omega arith) h

@@ -15,7 +15,7 @@ use native.Mathlib.Nat.{add-assoc, add-zero, zero-add, le-refl, eq-or-lt-of-le}
 use native.Mathlib.Omega.{arith}
 use lib.Dec.{eqb, ltb}
 use lib.ListN.{length}
-use borrow.Author.Tests.{ltb-false, eqb-true, not-false, lt-ltb, le-ltb, eq-eqb}
+use borrow.Author.Tests.{ltb-true, ltb-false, eqb-true, not-false, lt-ltb, le-ltb, eq-eqb}
 use Rattle.field.specs.Elements.{p}
 use Rattle.words.specs.Limits.{maxPlaces, multiplicityLimit}
 use Rattle.words.specs.Refusals.{firstReason}
@@ -27,19 +27,19 @@ use Rattle.words.proofs.Judgements.{decline-true, decline-false, decline-fine, 
 use Rattle.isa.specs.declared.U32TableEntry.{U32TableEntry}
 use Rattle.isa.specs.declared.Admission.{Admission}
 use Rattle.isa.specs.declared.Admission.the-variants.{Admitted, Refused as NotAdmitted}
-use Rattle.isa.specs.Entries.{judgeEntry, admitted, admit, height}
-use Rattle.isa.proofs.Entries.{Admissible, fine-admissible, admit-admitted, admit-refused, height-admitted}
+use Rattle.isa.specs.Entries.{entryWidth, judgeEntry, admitted, admission, admit, height}
+use Rattle.isa.proofs.Entries.{Admissible, fine-admissible, admission-admitted, admission-refused, admit-admitted, admit-refused, height-admitted}
 use Rattle.list.specs.declared.Judged.the-variants.{Height, Refused}
-use Rattle.list.specs.Lists.{U32List, capacity, used, keyAt, multiplicityAt, entryAt, listShape, countFull, judgePlace, judgeList}
+use Rattle.list.specs.Lists.{U32List, capacity, used, keyAt, multiplicityAt, entryAt, listShape, countFull, judgeEntryBy, judgePlaceBy, judgePlace, judgeList}
 use Rattle.list.specs.Heights.{getsSection, sectionPlacesTo, entriesAt, sectionEntries, sumHeights, listHeight}
-use Rattle.list.specs.Heights.{judgedAs, judgedList}
+use Rattle.list.specs.Heights.{judgedAs, judgedPlaces, judgedList}
 
 -- ---- the shape
 
 pub record Shaped (l : U32List) : Type 0 where
   pub small : capacity l ≤ maxPlaces
   pub within : used l ≤ capacity l
-  pub keys : length (l .keys) ≡ 3 * capacity l
+  pub keys : length (l .keys) ≡ entryWidth * capacity l
   pub multiplicities : length (l .multiplicities) ≡ capacity l
 
 either-false : (a b : Bool) → (a || b) ≡ false → (a ≡ false) × (b ≡ false)
@@ -51,7 +51,7 @@ unfolding listShape
 shaped l e =
     let a = either-false (ltb maxPlaces (capacity l)) _ (decline-fine _ Shape e) in
     let b = either-false (ltb (capacity l) (used l)) _ (a .1) in
-    let d = either-false (not (eqb (length (l .keys)) (3 * capacity l))) _ (b .1) in
+    let d = either-false (not (eqb (length (l .keys)) (entryWidth * capacity l))) _ (b .1) in
     record {
       small = ltb-false maxPlaces (capacity l) (a .0);
       within = ltb-false (capacity l) (used l) (b .0);
@@ -79,24 +79,52 @@ pub refused-told : {e asked : U32TableEntry} {k : Refusal} {answer : Admission}
     → asked ≡ e → answer ≡ admit asked → answer ≡ NotAdmitted k → judgeEntry e ≡ Declined k
 refused-told {e} {asked} at told is = rw (← at) (admit-refused asked (sym told ∙ is))
 
+-- the same by either rule
+pub admitted-told-by : (stored : Bool) {e asked x : U32TableEntry} {answer : Admission} → asked ≡ e
+    → answer ≡ admission (judgeEntryBy stored asked) asked → answer ≡ Admitted x → (judgeEntryBy stored e ≡ Fine) × (x ≡ admitted e)
+admitted-told-by stored {e} {asked} at told is = rw (← at) (admission-admitted asked (judgeEntryBy stored asked) (sym told ∙ is))
+
+pub refused-told-by : (stored : Bool) {e asked : U32TableEntry} {k : Refusal} {answer : Admission} → asked ≡ e
+    → answer ≡ admission (judgeEntryBy stored asked) asked → answer ≡ NotAdmitted k → judgeEntryBy stored e ≡ Declined k
+refused-told-by stored {e} {asked} at told is = rw (← at) (admission-refused asked (judgeEntryBy stored asked) (sym told ∙ is))
+
 -- ---- one place
 
 -- "The limit becomes p − 1"
 pub limit-is : multiplicityLimit ≡ p - 1
 limit-is = refl
 
-pub place-fine : (l : U32List) (i : ℕ) → judgeEntry (keyAt l i) ≡ Fine → multiplicityAt l i ≤ multiplicityLimit → judgePlace l i ≡ Fine
-unfolding judgePlace countFull
-place-fine l i e m = or-next _ e ∙ decline-false CountFull (le-ltb multiplicityLimit _ m)
+pub not-full : (m : ℕ) → m ≤ multiplicityLimit → countFull m ≡ false
+unfolding countFull
+not-full m h = le-ltb multiplicityLimit m h
 
-pub place-refused : (l : U32List) (i : ℕ) {k : Refusal} → judgeEntry (keyAt l i) ≡ Declined k → judgePlace l i ≡ Declined k
-unfolding judgePlace
-place-refused l i e = or-first _ e
+pub count-within : (m : ℕ) → countFull m ≡ false → m ≤ multiplicityLimit
+unfolding countFull
+count-within m e = ltb-false multiplicityLimit m e
 
-pub place-full : (l : U32List) (i : ℕ)
-    → judgeEntry (keyAt l i) ≡ Fine → multiplicityLimit < multiplicityAt l i → judgePlace l i ≡ Declined CountFull
-unfolding judgePlace countFull
-place-full l i e m = or-next _ e ∙ decline-true CountFull (lt-ltb multiplicityLimit _ m)
+pub full-more : (m : ℕ) → countFull m ≡ true → countFull (m + 1) ≡ true
+unfolding countFull
+full-more m e = let h = ltb-true multiplicityLimit m e in lt-ltb multiplicityLimit (m + 1) (omega arith)
+
+module _ (stored : Bool) (l : U32List) (i : ℕ) where
+  pub place-refused : {k : Refusal} → judgeEntryBy stored (keyAt l i) ≡ Declined k → judgePlaceBy stored l i ≡ Declined k
+  unfolding judgePlaceBy
+  place-refused e = or-first _ e
+
+  module _ (fine : judgeEntryBy stored (keyAt l i) ≡ Fine) where
+    pub place-full : countFull (multiplicityAt l i) ≡ true → judgePlaceBy stored l i ≡ Declined CountFull
+    unfolding judgePlaceBy
+    place-full m = or-next _ fine ∙ decline-true CountFull m
+
+    pub place-fine : countFull (multiplicityAt l i) ≡ false → judgePlaceBy stored l i ≡ Fine
+    unfolding judgePlaceBy
+    place-fine m = or-next _ fine ∙ decline-false CountFull m
+
+  pub place-told : judgePlaceBy stored l i ≡ Fine → (judgeEntryBy stored (keyAt l i) ≡ Fine) × (multiplicityAt l i ≤ multiplicityLimit)
+  unfolding judgePlaceBy
+  place-told e =
+      let a = or-both (judgeEntryBy stored (keyAt l i)) _ e in
+      (a .0, count-within _ (decline-fine _ CountFull (a .1)))
 
 -- ---- the list
 
@@ -106,27 +134,21 @@ pub record ListAdmitted (l : U32List) : Type 0 where
   pub entry : (i : ℕ) → i < used l → judgeEntry (keyAt l i) ≡ Fine
   pub multiplicity : (i : ℕ) → i < used l → multiplicityAt l i ≤ multiplicityLimit
 
-place-told : (l : U32List) (i : ℕ) → judgePlace l i ≡ Fine → (judgeEntry (keyAt l i) ≡ Fine) × (multiplicityAt l i ≤ multiplicityLimit)
-unfolding judgePlace countFull
-place-told l i e =
-    let a = or-both (judgeEntry (keyAt l i)) _ e in
-    (a .0, ltb-false multiplicityLimit _ (decline-fine _ CountFull (a .1)))
-
 pub list-admitted : (l : U32List) → judgeList l ≡ Fine → ListAdmitted l
-unfolding judgeList
+unfolding judgeList judgeEntryBy
 list-admitted l e =
     let a = or-both (listShape l) _ e in
     record { shape = shaped l (a .0); entry = λ i h. place (a .1) i h .0; multiplicity = λ i h. place (a .1) i h .1 }
   where
     place : firstReason (judgePlace l) 0 (used l) ≡ Fine → (i : ℕ) → i < used l
         → (judgeEntry (keyAt l i) ≡ Fine) × (multiplicityAt l i ≤ multiplicityLimit)
-    place f i h = place-told l i (first-fine (judgePlace l) 0 (used l) f i (omega arith) (omega arith))
+    place f i h = place-told false l i (first-fine (judgePlace l) 0 (used l) f i (omega arith) (omega arith))
 
 pub admitted-fine : (l : U32List) → ListAdmitted l → judgeList l ≡ Fine
-unfolding judgeList
+unfolding judgeList judgeEntryBy
 admitted-fine l h =
     or-next _ (shape-fine l (h .shape))
-    ∙ first-none (judgePlace l) 0 (used l) (λ i a b. place-fine l i (h .entry i (omega arith)) (h .multiplicity i (omega arith)))
+    ∙ first-none (judgePlace l) 0 (used l) (λ i a b. place-fine false l i (h .entry i (omega arith)) (not-full _ (h .multiplicity i (omega arith))))
 
 -- ---- the list judged
 
@@ -134,16 +156,21 @@ pub judged-shape : (l : U32List) {k : Refusal} → listShape l ≡ Declined k �
 unfolding judgedList judgeList
 judged-shape l e = rw e
 
-pub judged-place : (l : U32List) {k : Refusal}
-    → listShape l ≡ Fine → firstReason (judgePlace l) 0 (used l) ≡ Declined k → judgedList l ≡ Refused k
-unfolding judgedList judgeList
-judged-place l e f = rw (e, f)
+-- the shape is right: what is left is its used places
+pub judged-places : (l : U32List) → listShape l ≡ Fine → judgedList l ≡ judgedPlaces false l
+unfolding judgedList judgeList judgedPlaces
+judged-places l e = rw e
 
-pub judged-fine : (l : U32List) → listShape l ≡ Fine → firstReason (judgePlace l) 0 (used l) ≡ Fine → judgedList l ≡ Height (listHeight l)
-unfolding judgedList judgeList
-judged-fine l e f = rw (e, f)
+module _ (stored : Bool) (l : U32List) where
+  pub places-declined : {k : Refusal} → firstReason (judgePlaceBy stored l) 0 (used l) ≡ Declined k → judgedPlaces stored l ≡ Refused k
+  unfolding judgedPlaces
+  places-declined e = rw e
 
--- ---- what an answer of `judge_list` tells
+  pub places-fine : firstReason (judgePlaceBy stored l) 0 (used l) ≡ Fine → judgedPlaces stored l ≡ Height (listHeight l)
+  unfolding judgedPlaces
+  places-fine e = rw e
+
+-- ---- what an answer of `judge_list` or `judge_places` tells
 
 judged-as-height : (j : Judgement) (n h : ℕ) → Height h ≡ judgedAs j n → (j ≡ Fine) × (h ≡ n)
 judged-as-height Fine n h e = (refl, cc)
@@ -152,6 +179,16 @@ judged-as-height (Declined k) n h e = absurd (let z : _≡_ {A = ℕ} 0 1 = cc i
 judged-as-refused : (j : Judgement) (n : ℕ) (k : Refusal) → Refused k ≡ judgedAs j n → j ≡ Declined k
 judged-as-refused Fine n k e = absurd (let z : _≡_ {A = ℕ} 0 1 = cc in omega arith)
 judged-as-refused (Declined r) n k e = cc
+
+pub places-height : (stored : Bool) (l : U32List) (h : ℕ)
+    → Height h ≡ judgedPlaces stored l → (firstReason (judgePlaceBy stored l) 0 (used l) ≡ Fine) × (h ≡ listHeight l)
+unfolding judgedPlaces
+places-height stored l h e = judged-as-height (firstReason (judgePlaceBy stored l) 0 (used l)) (listHeight l) h e
+
+pub places-refused : (stored : Bool) (l : U32List) (k : Refusal)
+    → Refused k ≡ judgedPlaces stored l → firstReason (judgePlaceBy stored l) 0 (used l) ≡ Declined k
+unfolding judgedPlaces
+places-refused stored l k e = judged-as-refused (firstReason (judgePlaceBy stored l) 0 (used l)) (listHeight l) k e
 
 pub judged-height : (l : U32List) (h : ℕ) → Height h ≡ judgedList l → (judgeList l ≡ Fine) × (h ≡ listHeight l)
 unfolding judgedList

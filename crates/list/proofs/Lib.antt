@@ -1,2 +1,3 @@
 pub mod JudgedLists
 pub mod Finding
+pub mod Places

@@ -2,11 +2,12 @@
 use Prim.Native.Nat.{ℕ, zero, suc, _+_}
 use mathlib.Core.Bool.{Bool, true, cond}
 use mathlib.Core.List.{List, [], _∷_, _++_}
+use Rattle.words.specs.Refusals.{firstReason}
 use Rattle.words.specs.declared.Judgement.{Judgement}
 use Rattle.words.specs.declared.Judgement.the-variants.{Fine, Declined}
 use Rattle.isa.specs.declared.U32TableEntry.{U32TableEntry}
 use Rattle.isa.specs.Entries.{height}
-use Rattle.list.specs.Lists.{U32List, used, entryAt, judgeList}
+use Rattle.list.specs.Lists.{U32List, used, entryAt, judgePlaceBy, judgeList}
 use Rattle.list.specs.declared.Judged.{Judged}
 use Rattle.list.specs.declared.Judged.the-variants.{Height, Refused}
 
@@ -42,6 +43,10 @@ listHeight l = sumHeights (sectionEntries l)
 abbrev pub judgedAs : Judgement → ℕ → Judged
 judgedAs Fine h = Height h
 judgedAs (Declined reason) h = Refused reason
+
+-- its used places alone, by one of the two rules of entries
+unfoldable pub judgedPlaces : (stored : Bool) → U32List → Judged
+judgedPlaces stored l = judgedAs (firstReason (judgePlaceBy stored l) 0 (used l)) (listHeight l)
 
 unfoldable pub judgedList : U32List → Judged
 judgedList l = judgedAs (judgeList l) (listHeight l)

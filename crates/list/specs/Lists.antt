@@ -1,6 +1,6 @@
 -- Lists (document 01, "Recording and stored lists" and "Reasons to decline"): what a list is, and when it is admitted.
 use Prim.Native.Nat.{ℕ, _+_, _*_}
-use mathlib.Core.Bool.{Bool, not, _||_}
+use mathlib.Core.Bool.{Bool, true, false, not, _||_}
 use mathlib.Core.List.{List}
 use lib.Dec.{eqb, ltb}
 use lib.ListN.{length, getD}
@@ -9,7 +9,7 @@ use Rattle.words.specs.Refusals.{declineIf, orElse, firstReason}
 use Rattle.words.specs.declared.Judgement.{Judgement}
 use Rattle.words.specs.declared.Refusal.the-variants.{Shape, CountFull}
 use Rattle.isa.specs.declared.U32TableEntry.{U32TableEntry}
-use Rattle.isa.specs.Entries.{entry, judgeEntry, admitted}
+use Rattle.isa.specs.Entries.{entry, entryWidth, judgeEntry, admitStored, admitted}
 use Rattle.list.specs.declared.Sizes.{Sizes}
 
 -- "A list is sizes, then two parallel arrays: keys (three words each) and multiplicities."
@@ -30,7 +30,8 @@ used l = l .sizes .used
 
 -- the three words at place i
 unfoldable pub keyAt : U32List → ℕ → U32TableEntry
-keyAt l i = entry (getD (l .keys) (3 * i) 0) (getD (l .keys) (3 * i + 1) 0) (getD (l .keys) (3 * i + 2) 0)
+keyAt l i =
+    entry (getD (l .keys) (entryWidth * i) 0) (getD (l .keys) (entryWidth * i + 1) 0) (getD (l .keys) (entryWidth * i + 2) 0)
 
 unfoldable pub multiplicityAt : U32List → ℕ → ℕ
 multiplicityAt l i = getD (l .multiplicities) i 0
@@ -44,16 +45,28 @@ unfoldable pub listShape : U32List → Judgement
 listShape l =
     declineIf
     (ltb maxPlaces (capacity l) || (ltb (capacity l) (used l)
-    || (not (eqb (length (l .keys)) (3 * capacity l)) || not (eqb (length (l .multiplicities)) (capacity l)))))
+    || (not (eqb (length (l .keys)) (entryWidth * capacity l)) || not (eqb (length (l .multiplicities)) (capacity l)))))
     Shape
 
 -- 5: "multiplicity above" the limit, which is p − 1
 unfoldable pub countFull : ℕ → Bool
 countFull m = ltb multiplicityLimit m
 
+-- 2 to 4 by one of the two rules: true for an entry that stands in stored bytes, false for every other
+unfoldable pub judgeEntryBy : (stored : Bool) → U32TableEntry → Judgement
+judgeEntryBy true e = admitStored e
+judgeEntryBy false e = judgeEntry e
+
+-- 2 to 5 for an entry with its multiplicity
+abbrev pub judgeCounted : (stored : Bool) → U32TableEntry → ℕ → Judgement
+judgeCounted stored e multiplicity = orElse (judgeEntryBy stored e) (declineIf (countFull multiplicity) CountFull)
+
 -- 2 to 5 at one place
-unfoldable pub judgePlace : U32List → ℕ → Judgement
-judgePlace l i = orElse (judgeEntry (keyAt l i)) (declineIf (countFull (multiplicityAt l i)) CountFull)
+unfoldable pub judgePlaceBy : (stored : Bool) → U32List → ℕ → Judgement
+judgePlaceBy stored l i = judgeCounted stored (keyAt l i) (multiplicityAt l i)
+
+abbrev pub judgePlace : U32List → ℕ → Judgement
+judgePlace l i = judgePlaceBy false l i
 
 -- "1, then 2 to 5 entry by entry"
 unfoldable pub judgeList : U32List → Judgement

@@ -2,12 +2,13 @@
 ghost use mathlib.Core.Path.{_≡_};
 ghost use mathlib.Core.Bool.{true};
 ghost use Prim.Native.Nat.{ℕ, _+_, _*_, _≤_, _<_};
-ghost use mathlib.Core.List.{List, [], _∷_};
+ghost use mathlib.Core.List.{List};
 ghost use lib.ListN.{length};
 ghost use lib.Seq.{sets};
-ghost use Rattle.isa.specs.Entries.{lhs, rhs};
-ghost use Rattle.list.specs.Lists.{u32List, keyAt, listShape};
-ghost use Rattle.list.specs.Heights.{judgedList};
+ghost use Rattle.words.specs.Limits.{maxPlaces};
+ghost use Rattle.isa.specs.Entries.{entryWords, entryWidth, admission};
+ghost use Rattle.list.specs.Lists.{u32List, keyAt, entryAt, listShape, countFull, judgeEntryBy};
+ghost use Rattle.list.specs.Heights.{judgedPlaces, judgedList};
 ghost use Rattle.list.specs.Keys.{sameKey, findFrom};
 ghost use Rattle.list.specs.Eights.{EightDiffer};
 use isa::Admission;
@@ -40,7 +41,7 @@ pub fn list_shape(sizes: Sizes, keys: &[u64], multiplicities: &[u64]) -> Judgeme
     if capacity < sizes.used {
         return Judgement::Declined(Refusal::Shape);
     }
-    if keys.len() != 3 * capacity {
+    if keys.len() != U32TableEntry::WIDTH * capacity {
         return Judgement::Declined(Refusal::Shape);
     }
     if multiplicities.len() != capacity {
@@ -51,10 +52,10 @@ pub fn list_shape(sizes: Sizes, keys: &[u64], multiplicities: &[u64]) -> Judgeme
 
 // The three words at place i.
 pub fn key_at(keys: &[u64], i: usize) -> U32TableEntry
-    requires { ⌜ 3 * i + 2 < length (now keys) ⌝ }
+    requires { ⌜ entryWidth * i + 2 < length (now keys) ⌝ }
     ensures { λ r. ⌜ ((s : Sizes) (ms : List ℕ) → r ≡ keyAt (u32List s (now (keys .entry)) ms) i) ⌝ }
 {
-    let at = 3 * i;
+    let at = U32TableEntry::WIDTH * i;
     U32TableEntry {
         opcode: keys[at],
         left_operand: keys[at + 1],
@@ -62,12 +63,20 @@ pub fn key_at(keys: &[u64], i: usize) -> U32TableEntry
     }
 }
 
+// The entry at place i, as admission hands it back.
+pub fn entry_at(keys: &[u64], i: usize) -> U32TableEntry
+    requires { ⌜ entryWidth * i + 2 < length (now keys) ⌝ }
+    ensures { λ r. ⌜ ((s : Sizes) (ms : List ℕ) → r ≡ entryAt (u32List s (now (keys .entry)) ms) i) ⌝ }
+{
+    key_at(keys, i).reduced()
+}
+
 // The three words at place i become the key.
 pub fn put_key(keys: &mut [u64], i: usize, key: U32TableEntry)
-    requires { ⌜ 3 * i + 2 < length (now keys) ⌝ }
-    ensures { λ _. ⌜ now (keys .exit) ≡ sets (now (keys .entry)) (3 * i) (key .opcode ∷ lhs key ∷ rhs key ∷ []) ⌝ }
+    requires { ⌜ entryWidth * i + 2 < length (now keys) ⌝ }
+    ensures { λ _. ⌜ now (keys .exit) ≡ sets (now (keys .entry)) (entryWidth * i) (entryWords key) ⌝ }
 {
-    let at = 3 * i;
+    let at = U32TableEntry::WIDTH * i;
     keys[at] = key.opcode;
     keys[at + 1] = key.left_operand;
     keys[at + 2] = key.right_operand;
@@ -85,12 +94,12 @@ pub fn same_key(a: U32TableEntry, b: U32TableEntry) -> bool
     false
 }
 
-// Yes: the eight places from i on have another LHS.
+// Yes: the eight places from i on have another word where LHS stands.
 fn do_eight_differ(keys: &[u64], i: usize, left_operand: u64) -> bool
-    requires { ⌜ 3 * (i + 8) ≤ length (now keys) ⌝ }
+    requires { ⌜ entryWidth * (i + 8) ≤ length (now keys) ⌝ }
     ensures { λ r. ⌜ (r ≡ true → EightDiffer (now (keys .entry)) i «left_operand») ⌝ }
 {
-    let at = 3 * i;
+    let at = U32TableEntry::WIDTH * i;
     if keys[at + 1] == left_operand {
         return false;
     }
@@ -121,7 +130,7 @@ fn do_eight_differ(keys: &[u64], i: usize, left_operand: u64) -> bool
 // The first of the first n places that holds the key, or n where none does: eight at a time, up to eight that get a no, or to the last eight;
 // from there one by one.
 pub fn find(keys: &[u64], n: usize, key: U32TableEntry) -> usize
-    requires { ⌜ 3 * n ≤ length (now keys) ⌝ }
+    requires { ⌜ entryWidth * n ≤ length (now keys) ⌝ }
     ensures { λ r. ⌜ ((s : Sizes) (ms : List ℕ) → r ≡ findFrom (u32List s (now (keys .entry)) ms) key 0 n) ⌝ }
 {
     let eights = n / 8;
@@ -134,7 +143,7 @@ pub fn find(keys: &[u64], n: usize, key: U32TableEntry) -> usize
     }
     let mut i: usize = 8 * eight;
     while i < n {
-        if same_key(key_at(keys, i), key) {
+        if same_key(entry_at(keys, i), key) {
             return i;
         }
         i += 1;
@@ -142,20 +151,35 @@ pub fn find(keys: &[u64], n: usize, key: U32TableEntry) -> usize
     i
 }
 
-// Reason 1, then 2 to 5 entry by entry; where there is none, the list's height.
-pub fn judge_list(sizes: Sizes, keys: &[u64], multiplicities: &[u64]) -> Judged
-    ensures { λ r. ⌜ r ≡ judgedList (u32List sizes (now (keys .entry)) (now (multiplicities .entry))) ⌝ }
+// Reason 5: a multiplicity above the limit.
+pub fn count_full(multiplicity: u64) -> bool
+    ensures { λ r. ⌜ r ≡ countFull multiplicity ⌝ }
 {
-    if let Judgement::Declined(reason) = list_shape(sizes, keys, multiplicities) {
-        return Judged::Refused(reason);
+    MULTIPLICITY_LIMIT < multiplicity
+}
+
+// An entry admitted by one of the two rules: that of stored bytes, or the other.
+fn admit_by(stored: bool, key: U32TableEntry) -> Admission
+    ensures { λ r. ⌜ r ≡ admission (judgeEntryBy stored key) key ⌝ }
+{
+    if stored {
+        key.admit_stored()
+    } else {
+        key.admit()
     }
-    let used = sizes.used;
+}
+
+// Reasons 2 to 5 entry by entry, at the first `used` places; where there is none, their height.
+pub fn judge_places(stored: bool, used: usize, keys: &[u64], multiplicities: &[u64]) -> Judged
+    requires { ⌜ (used ≤ maxPlaces) × (entryWidth * used ≤ length (now keys)) × (used ≤ length (now multiplicities)) ⌝ }
+    ensures { λ r. ⌜ ((capacity : ℕ) → r ≡ judgedPlaces stored (u32List (record { capacity = capacity; used = used }) (now (keys .entry)) (now (multiplicities .entry)))) ⌝ }
+{
     let mut height: u64 = 0;
     let mut place: usize = 0;
     while place < used {
-        match key_at(keys, place).admit() {
+        match admit_by(stored, key_at(keys, place)) {
             Admission::Admitted(e) => {
-                if MULTIPLICITY_LIMIT < multiplicities[place] {
+                if count_full(multiplicities[place]) {
                     return Judged::Refused(Refusal::CountFull);
                 }
                 height += e.table_height_contribution();
@@ -165,4 +189,14 @@ pub fn judge_list(sizes: Sizes, keys: &[u64], multiplicities: &[u64]) -> Judged
         place += 1;
     }
     Judged::Height(height)
+}
+
+// Reason 1, then 2 to 5 entry by entry; where there is none, the list's height.
+pub fn judge_list(sizes: Sizes, keys: &[u64], multiplicities: &[u64]) -> Judged
+    ensures { λ r. ⌜ r ≡ judgedList (u32List sizes (now (keys .entry)) (now (multiplicities .entry))) ⌝ }
+{
+    if let Judgement::Declined(reason) = list_shape(sizes, keys, multiplicities) {
+        return Judged::Refused(reason);
+    }
+    judge_places(false, sizes.used, keys, multiplicities)
 }

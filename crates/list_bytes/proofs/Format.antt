@@ -10,17 +10,19 @@ use native.Mathlib.Omega.{arith}
 use lib.ListN.{length, getD, take, drop, length-append}
 use lib.Seq.{sets, take-all, take-add, drop-drop}
 use Rattle.words.specs.LittleEndian.{leAt, le}
+use Rattle.words.specs.Places.{places}
 use Rattle.words.proofs.LittleEndian.{length-le, leAt-same, leAt-left, leAt-right, leAt-le, le-leAt}
 use Rattle.words.proofs.Sets.{sets-then}
+use Rattle.words.proofs.Places.{length-places, length-flat, getD-flat, flat-parts}
 use Rattle.isa.specs.declared.U32TableEntry.{U32TableEntry}
 use Rattle.isa.specs.Entries.{lhs, rhs}
 use Rattle.isa.proofs.Comparing.{entries-same}
 use Rattle.isa.proofs.Entries.{Admissible, opcode-byte, lhs-below}
 use Rattle.list.specs.Lists.{U32List, used, entryAt, multiplicityAt}
 use Rattle.list.specs.Heights.{listHeight}
-use Rattle.list.specs.Places.{places}
-use Rattle.list_bytes.specs.Packed.{multiplicityWidth, oldMultiplicityWidth, lengthWith, storedLength, oldLength, widthOf, storedPlaces, keyBytes, storedBytes, storedN, storedHeight, storedEntry, storedMultiplicity}
-use Rattle.list_bytes.proofs.Places.{length-places, length-flat, getD-flat, flat-parts}
+use Rattle.list_bytes.specs.Packed.{nWidth, heightWidth, headWidth, opcodeWidth, operandWidth, keyWidth, keysEnd, multiplicityWidth, oldMultiplicityWidth}
+use Rattle.list_bytes.specs.Packed.{lengthWith, storedLength, oldLength, widthOf, storedPlaces, keyBytes, bytesWith, storedBytes}
+use Rattle.list_bytes.specs.Packed.{storedN, storedHeight, storedEntry, storedMultiplicity}
 
 -- ---- the form
 
@@ -32,18 +34,22 @@ abbrev pub countsForm : ℕ → (ℕ → ℕ) → ℕ → List ℕ
 countsForm w m n = flatMap (λ i. le w (m i)) (places n)
 
 abbrev pub formed : ℕ → (ℕ → U32TableEntry) → (ℕ → ℕ) → ℕ → ℕ → List ℕ
-formed w f m n h = le 4 n ++ (le 4 h ++ (keysForm f n ++ countsForm w m n))
+formed w f m n h = le nWidth n ++ (le heightWidth h ++ (keysForm f n ++ countsForm w m n))
+
+pub bytes-formed : (h : ℕ) (l : U32List) → bytesWith h l ≡ formed multiplicityWidth (entryAt l) (multiplicityAt l) (used l) h
+unfolding bytesWith storedPlaces
+bytes-formed h l = rw (length-places 0 (used l))
 
 pub stored-formed : (l : U32List) → storedBytes l ≡ formed multiplicityWidth (entryAt l) (multiplicityAt l) (used l) (listHeight l)
-unfolding storedBytes storedPlaces
-stored-formed l = rw (length-places 0 (used l))
+unfolding storedBytes
+stored-formed l = bytes-formed (listHeight l) l
 
-pub length-key : (e : U32TableEntry) → length (keyBytes e) ≡ 17
+pub length-key : (e : U32TableEntry) → length (keyBytes e) ≡ keyWidth
 unfolding keyBytes le
 length-key e = refl
 
-pub length-keys : (f : ℕ → U32TableEntry) (n : ℕ) → length (keysForm f n) ≡ 17 * n
-length-keys f n = length-flat (λ i. keyBytes (f i)) 17 (λ i. length-key (f i)) 0 n
+pub length-keys : (f : ℕ → U32TableEntry) (n : ℕ) → length (keysForm f n) ≡ keyWidth * n
+length-keys f n = length-flat (λ i. keyBytes (f i)) keyWidth (λ i. length-key (f i)) 0 n
 
 length-counts : (w : ℕ) (m : ℕ → ℕ) (n : ℕ) → length (countsForm w m n) ≡ w * n
 length-counts w m n = length-flat (λ i. le w (m i)) w (λ i. length-le w (m i)) 0 n
@@ -53,14 +59,14 @@ length-formed w f m n h = simp (length-append, length-le, length-keys f n, lengt
 
 -- the form, stored part by part
 pub put-form : (n h k : ℕ) (ks ms d d1 d2 d3 d4 : List ℕ) → length ks ≡ k
-    → d1 ≡ sets d 0 (le 4 n) → d2 ≡ sets d1 4 (le 4 h) → d3 ≡ sets d2 8 ks → d4 ≡ sets d3 (8 + k) ms
-    → d4 ≡ sets d 0 (le 4 n ++ (le 4 h ++ (ks ++ ms)))
+    → d1 ≡ sets d 0 (le nWidth n) → d2 ≡ sets d1 nWidth (le heightWidth h) → d3 ≡ sets d2 headWidth ks → d4 ≡ sets d3 (headWidth + k) ms
+    → d4 ≡ sets d 0 (le nWidth n ++ (le heightWidth h ++ (ks ++ ms)))
 put-form n h k ks ms d d1 d2 d3 d4 l e1 e2 e3 e4 =
     e4
     ∙ sym
-    (sets-then (le 4 n) (le 4 h ++ (ks ++ ms)) d d1 0 4 e1 (omega (arith, length-le 4 n))
-    ∙ sets-then (le 4 h) (ks ++ ms) d1 d2 4 8 e2 (omega (arith, length-le 4 h))
-    ∙ sets-then ks ms d2 d3 8 (8 + k) e3 (omega arith))
+    (sets-then (le nWidth n) (le heightWidth h ++ (ks ++ ms)) d d1 0 nWidth e1 (omega (arith, length-le nWidth n))
+    ∙ sets-then (le heightWidth h) (ks ++ ms) d1 d2 nWidth headWidth e2 (omega (arith, length-le heightWidth h))
+    ∙ sets-then ks ms d2 d3 headWidth (headWidth + k) e3 (omega arith))
 
 -- ---- where a number stands
 
@@ -74,68 +80,71 @@ module _ (g : ℕ → List ℕ) (w : ℕ) (l : (j : ℕ) → length (g j) ≡ w)
       (λ j q. rw add-assoc (getD-flat g w l 0 n i (a + j) p (omega arith) ∙ ap (λ (b : ℕ). getD (g b) (a + j) 0) (zero-add i)))
 
 module _ (e : U32TableEntry) (a : Admissible e) where
-  key-opcode : leAt (keyBytes e) 0 1 ≡ e .opcode
+  key-opcode : leAt (keyBytes e) 0 opcodeWidth ≡ e .opcode
   unfolding keyBytes
-  key-opcode = leAt-left (le 1 (e .opcode)) _ 0 1 (omega (arith, length-le 1 (e .opcode))) ∙ leAt-le 1 (e .opcode) (opcode-byte (e .opcode) (a .known))
+  key-opcode =
+      leAt-left (le opcodeWidth (e .opcode)) _ 0 opcodeWidth (omega (arith, length-le opcodeWidth (e .opcode)))
+      ∙ leAt-le opcodeWidth (e .opcode) (opcode-byte (e .opcode) (a .known))
 
-  key-lhs : leAt (keyBytes e) 1 8 ≡ lhs e
+  key-lhs : leAt (keyBytes e) opcodeWidth operandWidth ≡ lhs e
   unfolding keyBytes
   key-lhs =
-      after (le 1 (e .opcode)) (le 8 (lhs e) ++ le 8 (rhs e)) 1 0 8 (length-le 1 (e .opcode))
-      ∙ leAt-left (le 8 (lhs e)) (le 8 (rhs e)) 0 8 (omega (arith, length-le 8 (lhs e)))
-      ∙ leAt-le 8 (lhs e) (let h = lhs-below e a in omega arith)
+      after (le opcodeWidth (e .opcode)) (le operandWidth (lhs e) ++ le operandWidth (rhs e)) opcodeWidth 0 operandWidth (length-le opcodeWidth (e .opcode))
+      ∙ leAt-left (le operandWidth (lhs e)) (le operandWidth (rhs e)) 0 operandWidth (omega (arith, length-le operandWidth (lhs e)))
+      ∙ leAt-le operandWidth (lhs e) (let h = lhs-below e a in omega arith)
 
-  key-rhs : leAt (keyBytes e) 9 8 ≡ rhs e
+  key-rhs : leAt (keyBytes e) (opcodeWidth + operandWidth) operandWidth ≡ rhs e
   unfolding keyBytes
   key-rhs =
       let h = a .right in
-      after (le 1 (e .opcode)) (le 8 (lhs e) ++ le 8 (rhs e)) 1 8 8 (length-le 1 (e .opcode))
-      ∙ after (le 8 (lhs e)) (le 8 (rhs e)) 8 0 8 (length-le 8 (lhs e))
-      ∙ leAt-le 8 (rhs e) (omega arith)
+      after (le opcodeWidth (e .opcode)) (le operandWidth (lhs e) ++ le operandWidth (rhs e)) opcodeWidth operandWidth operandWidth (length-le opcodeWidth (e .opcode))
+      ∙ after (le operandWidth (lhs e)) (le operandWidth (rhs e)) operandWidth 0 operandWidth (length-le operandWidth (lhs e))
+      ∙ leAt-le operandWidth (rhs e) (omega arith)
 
 -- ---- what the form holds
 
 module _ (w : ℕ) (f : ℕ → U32TableEntry) (m : ℕ → ℕ) (n h : ℕ) where
-  past-head : (at k : ℕ) → leAt (formed w f m n h) (8 + at) k ≡ leAt (keysForm f n ++ countsForm w m n) at k
+  past-head : (at k : ℕ) → leAt (formed w f m n h) (headWidth + at) k ≡ leAt (keysForm f n ++ countsForm w m n) at k
   past-head at k =
-      let e : 8 + at ≡ 4 + (4 + at) = omega arith in
+      let e : headWidth + at ≡ nWidth + (heightWidth + at) = omega arith in
       ap (λ (a : ℕ). leAt (formed w f m n h) a k) e
-      ∙ after (le 4 n) (le 4 h ++ (keysForm f n ++ countsForm w m n)) 4 (4 + at) k (length-le 4 n)
-      ∙ after (le 4 h) (keysForm f n ++ countsForm w m n) 4 at k (length-le 4 h)
+      ∙ after (le nWidth n) (le heightWidth h ++ (keysForm f n ++ countsForm w m n)) nWidth (heightWidth + at) k (length-le nWidth n)
+      ∙ after (le heightWidth h) (keysForm f n ++ countsForm w m n) heightWidth at k (length-le heightWidth h)
 
-  pub holds-n : n < 4294967296 → storedN (formed w f m n h) ≡ n
+  pub holds-n : n < 256 ^ nWidth → storedN (formed w f m n h) ≡ n
   unfolding storedN
-  holds-n p = leAt-left (le 4 n) _ 0 4 (omega (arith, length-le 4 n)) ∙ leAt-le 4 n p
+  holds-n p = leAt-left (le nWidth n) _ 0 nWidth (omega (arith, length-le nWidth n)) ∙ leAt-le nWidth n p
 
-  pub holds-height : h < 4294967296 → storedHeight (formed w f m n h) ≡ h
+  pub holds-height : h < 256 ^ heightWidth → storedHeight (formed w f m n h) ≡ h
   unfolding storedHeight
   holds-height p =
-      after (le 4 n) (le 4 h ++ (keysForm f n ++ countsForm w m n)) 4 0 4 (length-le 4 n)
-      ∙ leAt-left (le 4 h) (keysForm f n ++ countsForm w m n) 0 4 (omega (arith, length-le 4 h))
-      ∙ leAt-le 4 h p
+      after (le nWidth n) (le heightWidth h ++ (keysForm f n ++ countsForm w m n)) nWidth 0 heightWidth (length-le nWidth n)
+      ∙ leAt-left (le heightWidth h) (keysForm f n ++ countsForm w m n) 0 heightWidth (omega (arith, length-le heightWidth h))
+      ∙ leAt-le heightWidth h p
 
-  in-key : (i a k : ℕ) → i < n → a + k ≤ 17 → leAt (formed w f m n h) (8 + a + 17 * i) k ≡ leAt (keyBytes (f i)) a k
-  in-key i a k p r =
-      let e : 8 + a + 17 * i ≡ 8 + (17 * i + a) = omega arith in
+  -- at place `at`, which is a bytes into the key at place i
+  in-key : (i at a k : ℕ) → at ≡ keysEnd i + a → i < n → a + k ≤ keyWidth → leAt (formed w f m n h) at k ≡ leAt (keyBytes (f i)) a k
+  in-key i at a k is p r =
+      let e : at ≡ headWidth + (keyWidth * i + a) = omega arith in
       ap (λ (b : ℕ). leAt (formed w f m n h) b k) e
-      ∙ past-head (17 * i + a) k
-      ∙ leAt-left (keysForm f n) (countsForm w m n) (17 * i + a) k (omega (arith, length-keys f n))
-      ∙ in-block (λ i. keyBytes (f i)) 17 (λ i. length-key (f i)) n i a k p r
+      ∙ past-head (keyWidth * i + a) k
+      ∙ leAt-left (keysForm f n) (countsForm w m n) (keyWidth * i + a) k (omega (arith, length-keys f n))
+      ∙ in-block (λ i. keyBytes (f i)) keyWidth (λ i. length-key (f i)) n i a k p r
 
   pub holds-entry : (i : ℕ) → i < n → Admissible (f i) → storedEntry (formed w f m n h) i ≡ f i
   unfolding storedEntry
   holds-entry i p b =
       entries-same
-      (in-key i 0 1 p (omega arith) ∙ key-opcode (f i) b)
-      (in-key i 1 8 p (omega arith) ∙ key-lhs (f i) b)
-      (in-key i 9 8 p (omega arith) ∙ key-rhs (f i) b)
+      (in-key i _ 0 opcodeWidth (omega arith) p (omega arith) ∙ key-opcode (f i) b)
+      (in-key i _ opcodeWidth operandWidth refl p (omega arith) ∙ key-lhs (f i) b)
+      (in-key i _ (opcodeWidth + operandWidth) operandWidth (omega arith) p (omega arith) ∙ key-rhs (f i) b)
 
-  in-counts : (i : ℕ) → i < n → m i < 256 ^ w → leAt (formed w f m n h) (8 + 17 * n + w * i) w ≡ m i
+  in-counts : (i : ℕ) → i < n → m i < 256 ^ w → leAt (formed w f m n h) (keysEnd n + w * i) w ≡ m i
   in-counts i q r =
-      let e : 8 + 17 * n + w * i ≡ 8 + (17 * n + (w * i + 0)) = omega arith in
+      let e : keysEnd n + w * i ≡ headWidth + (keyWidth * n + (w * i + 0)) = omega arith in
       ap (λ (b : ℕ). leAt (formed w f m n h) b w) e
-      ∙ past-head (17 * n + (w * i + 0)) w
-      ∙ after (keysForm f n) (countsForm w m n) (17 * n) (w * i + 0) w (length-keys f n)
+      ∙ past-head (keyWidth * n + (w * i + 0)) w
+      ∙ after (keysForm f n) (countsForm w m n) (keyWidth * n) (w * i + 0) w (length-keys f n)
       ∙ in-block (λ i. le w (m i)) w (λ i. length-le w (m i)) n i 0 w q (omega arith)
       ∙ leAt-le w (m i) r
 
@@ -152,15 +161,15 @@ pub width-new : (s : List ℕ) → length s ≡ storedLength (storedN s) → 0 <
 width-new s e p = width-other s (λ f. omega arith)
 
 -- what was written in the new form
-pub holds-multiplicity : (f : ℕ → U32TableEntry) (m : ℕ → ℕ) (n h i : ℕ) → n < 4294967296 → i < n → m i < 18446744073709551616
+pub holds-multiplicity : (f : ℕ → U32TableEntry) (m : ℕ → ℕ) (n h i : ℕ) → n < 256 ^ nWidth → i < n → m i < 256 ^ multiplicityWidth
     → storedMultiplicity (formed multiplicityWidth f m n h) i ≡ m i
 unfolding storedMultiplicity
 holds-multiplicity f m n h i p q r =
     let s = formed multiplicityWidth f m n h in
     let k = holds-n multiplicityWidth f m n h p in
-    let v : widthOf s ≡ 8 = width-new s (length-formed multiplicityWidth f m n h ∙ ap storedLength (sym k)) (omega arith) in
-    ap (λ (w : ℕ). leAt s (8 + 17 * storedN s + w * i) w) v
-    ∙ ap (λ (c : ℕ). leAt s (8 + 17 * c + 8 * i) 8) k
+    let v : widthOf s ≡ multiplicityWidth = width-new s (length-formed multiplicityWidth f m n h ∙ ap storedLength (sym k)) (omega arith) in
+    ap (λ (w : ℕ). leAt s (keysEnd (storedN s) + w * i) w) v
+    ∙ ap (λ (c : ℕ). leAt s (keysEnd c + multiplicityWidth * i) multiplicityWidth) k
     ∙ in-counts multiplicityWidth f m n h i q r
 
 -- ---- bytes are the form of what they hold
@@ -173,17 +182,19 @@ block-end w j n q =
     omega (arith, mul-suc w j)
 
 module _ (s : List ℕ) (b : (j : ℕ) → getD s j 0 < 256) where
-  key-part : (j : ℕ) → 8 + 17 * j + 17 ≤ length s → keyBytes (storedEntry s j) ≡ take 17 (drop (8 + 17 * j) s)
+  key-part : (j : ℕ) → keysEnd j + keyWidth ≤ length s → keyBytes (storedEntry s j) ≡ take keyWidth (drop (keysEnd j) s)
   unfolding keyBytes storedEntry
   key-part j h =
-      let D = drop (8 + 17 * j) s in
-      let e1 : 8 + 17 * j + 1 ≡ 9 + 17 * j = omega arith in
-      let e2 : 9 + 17 * j + 8 ≡ 17 + 17 * j = omega arith in
-      rw (le-leAt s b 1 (8 + 17 * j) (omega arith), le-leAt s b 8 (9 + 17 * j) (omega arith), le-leAt s b 8 (17 + 17 * j) (omega arith))
-      (rw (← e2, ← drop-drop 8 (9 + 17 * j) s, ← e1, ← drop-drop 1 (8 + 17 * j) s, ← take-add 8 8 (drop 1 D)) (sym (take-add 1 16 D)))
+      let a = keysEnd j in
+      let b₁ = a + opcodeWidth in
+      let b₂ = b₁ + operandWidth in
+      rw (le-leAt s b opcodeWidth a (omega arith), le-leAt s b operandWidth b₁ (omega arith), le-leAt s b operandWidth b₂ (omega arith))
+      (rw (← drop-drop operandWidth b₁ s, ← drop-drop opcodeWidth a s, ← take-add operandWidth operandWidth (drop opcodeWidth (drop a s)))
+      (sym (take-add opcodeWidth (operandWidth + operandWidth) (drop a s))))
 
   parts : (w n : ℕ) → length s ≡ lengthWith w n → (a h k c : List ℕ)
-      → a ≡ take 4 s → h ≡ take 4 (drop 4 s) → k ≡ take (17 * n) (drop 8 s) → c ≡ take (w * n) (drop (8 + 17 * n) s)
+      → a ≡ take nWidth s → h ≡ take heightWidth (drop nWidth s)
+      → k ≡ take (keyWidth * n) (drop headWidth s) → c ≡ take (w * n) (drop (keysEnd n) s)
       → a ++ (h ++ (k ++ c)) ≡ s
   parts w n l a h k c ea eh ek ec =
       rw (
@@ -191,25 +202,25 @@ module _ (s : List ℕ) (b : (j : ℕ) → getD s j 0 < 256) where
         eh,
         ek,
         ec,
-        ← drop-drop (17 * n) 8 s,
-        ← take-add (17 * n) (w * n) (drop 8 s),
-        ← drop-drop 4 4 s,
-        ← take-add 4 (17 * n + w * n) (drop 4 s),
-        ← take-add 4 (4 + (17 * n + w * n)) s,
+        ← drop-drop (keyWidth * n) headWidth s,
+        ← take-add (keyWidth * n) (w * n) (drop headWidth s),
+        ← drop-drop heightWidth nWidth s,
+        ← take-add heightWidth (keyWidth * n + w * n) (drop nWidth s),
+        ← take-add nWidth (heightWidth + (keyWidth * n + w * n)) s,
       )
-      (take-all (4 + (4 + (17 * n + w * n))) s (omega arith))
+      (take-all (nWidth + (heightWidth + (keyWidth * n + w * n))) s (omega arith))
 
   pub formed-again : (n h : ℕ) → length s ≡ lengthWith (widthOf s) n → n ≡ storedN s → h ≡ storedHeight s
       → formed (widthOf s) (storedEntry s) (storedMultiplicity s) n h ≡ s
   unfolding storedN storedHeight storedMultiplicity
   formed-again n h l en eh =
       let w = widthOf s in
-      let K : keysForm (storedEntry s) n ≡ take (17 * n) (drop 8 s)
-      = flat-parts s 8 17 (λ i. keyBytes (storedEntry s i)) 0 n (λ j p q. key-part j (omega arith)) in
-      let C : countsForm w (storedMultiplicity s) n ≡ take (w * n) (drop (8 + 17 * n) s)
-      = flat-parts s (8 + 17 * n) w (λ i. le w (storedMultiplicity s i)) 0 n
-      (λ j p q. rw (← en) (le-leAt s b w (8 + 17 * n + w * j) (omega (arith, block-end w j n q))))
+      let K : keysForm (storedEntry s) n ≡ take (keyWidth * n) (drop headWidth s)
+      = flat-parts s headWidth keyWidth (λ i. keyBytes (storedEntry s i)) 0 n (λ j p q. key-part j (omega arith)) in
+      let C : countsForm w (storedMultiplicity s) n ≡ take (w * n) (drop (keysEnd n) s)
+      = flat-parts s (keysEnd n) w (λ i. le w (storedMultiplicity s i)) 0 n
+      (λ j p q. rw (← en) (le-leAt s b w (keysEnd n + w * j) (omega (arith, block-end w j n q))))
       ∙ rw (mul-zero, add-zero) in
-      let A : le 4 n ≡ take 4 s = ap (le 4) en ∙ le-leAt s b 4 0 (omega arith) in
-      let H : le 4 h ≡ take 4 (drop 4 s) = ap (le 4) eh ∙ le-leAt s b 4 4 (omega arith) in
-      parts w n l (le 4 n) (le 4 h) (keysForm (storedEntry s) n) (countsForm w (storedMultiplicity s) n) A H K C
+      let A : le nWidth n ≡ take nWidth s = ap (le nWidth) en ∙ le-leAt s b nWidth 0 (omega arith) in
+      let H : le heightWidth h ≡ take heightWidth (drop nWidth s) = ap (le heightWidth) eh ∙ le-leAt s b heightWidth nWidth (omega arith) in
+      parts w n l (le nWidth n) (le heightWidth h) (keysForm (storedEntry s) n) (countsForm w (storedMultiplicity s) n) A H K C

@@ -1,3 +1,3 @@
-pub mod Places
+pub mod StoredPlaces
 pub mod Replaced
 pub mod Format

@@ -6,18 +6,27 @@ ghost use lib.ListN.{length};
 ghost use lib.Seq.{sets};
 ghost use Rattle.words.specs.Limits.{maxPlaces};
 ghost use Rattle.words.specs.LittleEndian.{le};
+ghost use Rattle.words.specs.Places.{places};
+ghost use Rattle.isa.specs.Entries.{entryWords, entryWidth};
 ghost use Rattle.list.specs.Lists.{u32List, entryAt, multiplicityAt};
-ghost use Rattle.list.specs.Heights.{listHeight};
-ghost use Rattle.list.specs.Places.{places};
-ghost use Rattle.list_bytes.specs.Packed.{keyWidth, multiplicityWidth, lengthWith, widthOf, storedLength, keyBytes, storedBytes, keyWords};
+ghost use Rattle.list_bytes.specs.Packed.{nWidth, headWidth, keyWidth, keysEnd, multiplicityWidth, lengthWith, widthOf, storedLength, keyBytes, bytesWith};
 ghost use Rattle.list_bytes.specs.Packed.{storedN, storedHeight, storedEntry, storedMultiplicity};
 use isa::U32TableEntry;
 use list::Sizes;
 
-// Bytes before the keys: the number of entries and the height.
-pub const HEAD_WIDTH: usize = 8;
+// The bytes of each part: the number of entries, the height, and for each entry a key and its multiplicity.
+const N_WIDTH: usize = 4;
 
-pub const KEY_WIDTH: usize = 17;
+const HEIGHT_WIDTH: usize = 4;
+
+// What stands before the keys.
+pub const HEAD_WIDTH: usize = N_WIDTH + HEIGHT_WIDTH;
+
+const OPCODE_WIDTH: usize = 1;
+
+const OPERAND_WIDTH: usize = 8;
+
+pub const KEY_WIDTH: usize = OPCODE_WIDTH + OPERAND_WIDTH + OPERAND_WIDTH;
 
 pub const MULTIPLICITY_WIDTH: usize = 8;
 
@@ -26,7 +35,7 @@ pub const OLD_MULTIPLICITY_WIDTH: usize = 4;
 
 // The number of entries that the bytes say they hold.
 pub fn stored_n(bytes: &[u8]) -> usize
-    requires { ⌜ 4 ≤ length (now bytes) ⌝ }
+    requires { ⌜ nWidth ≤ length (now bytes) ⌝ }
     ensures { λ r. ⌜ r ≡ storedN (now (bytes .entry)) ⌝ }
 {
     words::half_at(bytes, 0) as usize
@@ -34,22 +43,22 @@ pub fn stored_n(bytes: &[u8]) -> usize
 
 // The height that the bytes say their entries have.
 pub fn stored_height(bytes: &[u8]) -> u64
-    requires { ⌜ 8 ≤ length (now bytes) ⌝ }
+    requires { ⌜ headWidth ≤ length (now bytes) ⌝ }
     ensures { λ r. ⌜ r ≡ storedHeight (now (bytes .entry)) ⌝ }
 {
-    words::half_at(bytes, 4)
+    words::half_at(bytes, N_WIDTH)
 }
 
 // The entry at place i of the bytes.
 fn stored_entry(bytes: &[u8], i: usize) -> U32TableEntry
-    requires { ⌜ (i < maxPlaces) × (25 + keyWidth * i ≤ length (now bytes)) ⌝ }
+    requires { ⌜ (i < maxPlaces) × (keysEnd (i + 1) ≤ length (now bytes)) ⌝ }
     ensures { λ r. ⌜ r ≡ storedEntry (now (bytes .entry)) i ⌝ }
 {
     let at = HEAD_WIDTH + KEY_WIDTH * i;
     U32TableEntry {
         opcode: words::byte_at(bytes, at),
-        left_operand: words::word_at(bytes, at + 1),
-        right_operand: words::word_at(bytes, at + 9),
+        left_operand: words::word_at(bytes, at + OPCODE_WIDTH),
+        right_operand: words::word_at(bytes, at + OPCODE_WIDTH + OPERAND_WIDTH),
     }
 }
 
@@ -69,8 +78,8 @@ fn stored_multiplicity(bytes: &[u8], n: usize, i: usize) -> u64
 // Stores what the bytes hold in the first n places.
 pub fn unpack(bytes: &[u8], n: usize, keys: &mut [u64], multiplicities: &mut [u64])
     requires { ⌜ (n ≡ storedN (now bytes)) × (n ≤ maxPlaces) × (lengthWith (widthOf (now bytes)) n ≤ length (now bytes)) ⌝ }
-    requires { ⌜ (3 * n ≤ length (now keys)) × (n ≤ length (now multiplicities)) ⌝ }
-    ensures { λ _. ⌜ now (keys .exit) ≡ sets (now (keys .entry)) 0 (flatMap (λ i. keyWords (storedEntry (now (bytes .entry)) i)) (places n)) ⌝ }
+    requires { ⌜ (entryWidth * n ≤ length (now keys)) × (n ≤ length (now multiplicities)) ⌝ }
+    ensures { λ _. ⌜ now (keys .exit) ≡ sets (now (keys .entry)) 0 (flatMap (λ i. entryWords (storedEntry (now (bytes .entry)) i)) (places n)) ⌝ }
     ensures { λ _. ⌜ now (multiplicities .exit) ≡ sets (now (multiplicities .entry)) 0 (map (storedMultiplicity (now (bytes .entry))) (places n)) ⌝ }
 {
     let mut i: usize = 0;
@@ -86,19 +95,24 @@ fn put_entry(out: &mut [u8], at: usize, e: U32TableEntry)
     requires { ⌜ at + keyWidth ≤ length (now out) ⌝ }
     ensures { λ _. ⌜ now (out .exit) ≡ sets (now (out .entry)) at (keyBytes e) ⌝ }
 {
-    words::put_le(out, at, 1, e.opcode);
-    words::put_le(out, at + 1, 8, e.left_operand);
-    words::put_le(out, at + 9, 8, e.right_operand);
+    words::put_le(out, at, OPCODE_WIDTH, e.opcode);
+    words::put_le(out, at + OPCODE_WIDTH, OPERAND_WIDTH, e.left_operand);
+    words::put_le(
+        out,
+        at + OPCODE_WIDTH + OPERAND_WIDTH,
+        OPERAND_WIDTH,
+        e.right_operand,
+    );
 }
 
 // Stores the bytes of the first n entries from place `at` on.
 fn put_entries(keys: &[u64], n: usize, out: &mut [u8], at: usize)
-    requires { ⌜ (n ≤ maxPlaces) × (3 * n ≤ length (now keys)) × (at + keyWidth * n ≤ length (now out)) ⌝ }
+    requires { ⌜ (n ≤ maxPlaces) × (entryWidth * n ≤ length (now keys)) × (at + keyWidth * n ≤ length (now out)) ⌝ }
     ensures { λ _. ⌜ ((s : Sizes) (ms : List ℕ) → now (out .exit) ≡ sets (now (out .entry)) at (flatMap (λ i. keyBytes (entryAt (u32List s (now (keys .entry)) ms) i)) (places n))) ⌝ }
 {
     let mut i: usize = 0;
     while i < n {
-        put_entry(out, at + KEY_WIDTH * i, list::key_at(keys, i));
+        put_entry(out, at + KEY_WIDTH * i, list::entry_at(keys, i));
         i += 1;
     }
 }
@@ -120,14 +134,14 @@ fn put_multiplicities(multiplicities: &[u64], n: usize, out: &mut [u8], at: usiz
     }
 }
 
-// Stores the bytes of a list of the given height.
+// Stores the bytes of a list, with this number as its height.
 pub fn put_list(sizes: Sizes, height: u64, keys: &[u64], multiplicities: &[u64], out: &mut [u8])
-    requires { ⌜ (sizes .used ≤ maxPlaces) × (3 * sizes .used ≤ length (now keys)) × (sizes .used ≤ length (now multiplicities)) × (storedLength (sizes .used) ≤ length (now out)) ⌝ }
-    ensures { λ _. ⌜ (height ≡ listHeight (u32List sizes (now (keys .entry)) (now (multiplicities .entry))) → now (out .exit) ≡ sets (now (out .entry)) 0 (storedBytes (u32List sizes (now (keys .entry)) (now (multiplicities .entry))))) ⌝ }
+    requires { ⌜ (sizes .used ≤ maxPlaces) × (entryWidth * sizes .used ≤ length (now keys)) × (sizes .used ≤ length (now multiplicities)) × (storedLength (sizes .used) ≤ length (now out)) ⌝ }
+    ensures { λ _. ⌜ now (out .exit) ≡ sets (now (out .entry)) 0 (bytesWith height (u32List sizes (now (keys .entry)) (now (multiplicities .entry)))) ⌝ }
 {
     let n = sizes.used;
-    words::put_le(out, 0, 4, n as u64);
-    words::put_le(out, 4, 4, height);
+    words::put_le(out, 0, N_WIDTH, n as u64);
+    words::put_le(out, N_WIDTH, HEIGHT_WIDTH, height);
     put_entries(keys, n, out, HEAD_WIDTH);
     put_multiplicities(multiplicities, n, out, HEAD_WIDTH + KEY_WIDTH * n);
 }

@@ -11,7 +11,7 @@ use lib.Dec.{ltb}
 use lib.Pow.{pow-pos, pow-mono}
 use borrow.Author.Tests.{ltb-true, ltb-false, lt-ltb, le-ltb}
 use Rattle.words.specs.Limits.{minPaddedHeight}
-use Rattle.list_record.specs.Heights.{doubledTo, paddedHeight}
+use Rattle.list_record.specs.Plan.{doubledTo, paddedHeight}
 
 below-or-not : (a b : ℕ) → (a < b) ⊎ (b ≤ a)
 below-or-not a b = go (ltb a b) refl where

@@ -1,2 +1,3 @@
-pub mod Heights
+pub mod Plan
 pub mod Recording
+pub mod Placing

@@ -1,10 +1,13 @@
 // Planning and recording. A list is its sizes, its keys, three words a place, and its multiplicities, one a place.
 ghost use mathlib.Core.Path.{_≡_};
-ghost use Prim.Native.Nat.{_^_, _≤_, _<_};
-ghost use Rattle.isa.specs.Entries.{entry};
+ghost use Prim.Native.Nat.{_*_, _^_, _≤_, _<_};
+ghost use lib.ListN.{length};
+ghost use Rattle.words.specs.Outcomes.{Leaves};
+ghost use Rattle.isa.specs.Entries.{entry, entryWidth};
 ghost use Rattle.list.specs.Lists.{u32List};
-ghost use Rattle.list_record.specs.Heights.{paddedHeight, planAll, plannedAnswer};
-ghost use Rattle.list_record.specs.Recording.{recordAll, IsRecorded};
+ghost use Rattle.list_record.specs.Plan.{paddedHeight, planAll, plannedAnswer};
+ghost use Rattle.list_record.specs.Recording.{placeReason, recordAll, recordedAnswer};
+ghost use Rattle.list_record.specs.Placing.{placeAs, placeOf, storedAt, Fits};
 use isa::Admission;
 use isa::U32TableEntry;
 use list::Judged;
@@ -12,7 +15,6 @@ pub use list::Sizes;
 use words::Judgement;
 pub use words::MAX_PLACES;
 use words::MIN_PADDED_HEIGHT;
-use words::MULTIPLICITY_LIMIT;
 use words::Refusal;
 
 // Height and padded height of a list, or why it is declined.
@@ -24,6 +26,13 @@ pub enum Planned {
 // The place of a recorded key, or why the recording is declined.
 pub enum Recorded {
     At(usize),
+    Refused(Refusal),
+}
+
+// Where an entry goes: the place of an equal key, or nowhere yet and this is the new key; or why it is declined.
+pub enum Place {
+    Known(usize),
+    New(U32TableEntry),
     Refused(Refusal),
 }
 
@@ -62,18 +71,83 @@ pub fn plan(sizes: Sizes, keys: &[u64], multiplicities: &[u64]) -> Planned
     }
 }
 
-// A recording that is declined: the sizes are as they were.
-fn declined(sizes: Sizes, reason: Refusal) -> Recording
-    ensures { λ r. ⌜ r ≡ record { answer = Recorded.Refused reason; sizes = sizes } ⌝ }
+// Where an admitted entry goes: to the first equal key, or as a new key; or 5 or 6.
+fn find_admitted(sizes: Sizes, keys: &[u64], multiplicities: &[u64], e: U32TableEntry) -> Place
+    requires { ⌜ (entryWidth * sizes .used ≤ length (now keys)) × (sizes .used ≤ length (now multiplicities)) ⌝ }
+    ensures { λ r. ⌜ r ≡ placeAs (placeReason (u32List sizes (now (keys .entry)) (now (multiplicities .entry))) e) (u32List sizes (now (keys .entry)) (now (multiplicities .entry))) e ⌝ }
 {
-    Recording {
-        answer: Recorded::Refused(reason),
-        sizes,
+    let used = sizes.used;
+    let at = list::find(keys, used, e);
+    if at < used {
+        let multiplicity = multiplicities[at];
+        if list::count_full(multiplicity) {
+            return Place::Refused(Refusal::CountFull);
+        }
+        if list::count_full(multiplicity + 1) {
+            return Place::Refused(Refusal::CountFull);
+        }
+        return Place::Known(at);
+    }
+    if used < sizes.capacity {
+        Place::New(e)
+    } else {
+        Place::Refused(Refusal::ListFull)
     }
 }
 
-// The first equal key gains one; else the key is appended with 1. What is found and stored is the entry that admission hands back. The
-// sizes come back beside the answer.
+// Where an entry goes, or the first reason against recording it. What is looked for and goes there is the entry that admission hands back.
+pub fn find_place(
+    sizes: Sizes,
+    keys: &[u64],
+    multiplicities: &[u64],
+    opcode: u64,
+    left_operand: u64,
+    right_operand: u64,
+) -> Place
+    ensures { λ r. ⌜ r ≡ placeOf (u32List sizes (now (keys .entry)) (now (multiplicities .entry))) (entry opcode «left_operand» «right_operand») ⌝ }
+{
+    if let Judgement::Declined(reason) = list::list_shape(sizes, keys, multiplicities) {
+        return Place::Refused(reason);
+    }
+    match U32TableEntry::new(opcode, left_operand, right_operand).admit() {
+        Admission::Refused(reason) => Place::Refused(reason),
+        Admission::Admitted(e) => find_admitted(sizes, keys, multiplicities, e),
+    }
+}
+
+// Stores at a place that was found: the key there gains one, or the new key is appended with 1; a refusal stores nothing.
+pub fn store(sizes: Sizes, keys: &mut [u64], multiplicities: &mut [u64], place: Place) -> Recording
+    requires { ⌜ Fits (u32List sizes (now keys) (now multiplicities)) place ⌝ }
+    ensures { λ r. ⌜ Leaves (storedAt (u32List sizes (now (keys .entry)) (now (multiplicities .entry))) place) (recordedAnswer (r .answer)) (u32List (r .sizes) (now (keys .exit)) (now (multiplicities .exit))) ⌝ }
+{
+    match place {
+        Place::Known(at) => {
+            multiplicities[at] += 1;
+            Recording {
+                answer: Recorded::At(at),
+                sizes,
+            }
+        }
+        Place::New(e) => {
+            let used = sizes.used;
+            list::put_key(keys, used, e);
+            multiplicities[used] = 1;
+            Recording {
+                answer: Recorded::At(used),
+                sizes: Sizes {
+                    capacity: sizes.capacity,
+                    used: used + 1,
+                },
+            }
+        }
+        Place::Refused(reason) => Recording {
+            answer: Recorded::Refused(reason),
+            sizes,
+        },
+    }
+}
+
+// The first equal key gains one; else the key is appended with 1. The sizes come back beside the answer.
 pub fn record_u32_table_entry_by_value(
     sizes: Sizes,
     keys: &mut [u64],
@@ -82,42 +156,17 @@ pub fn record_u32_table_entry_by_value(
     left_operand: u64,
     right_operand: u64,
 ) -> Recording
-    ensures { λ r. ⌜ IsRecorded (recordAll (u32List sizes (now (keys .entry)) (now (multiplicities .entry))) (entry opcode «left_operand» «right_operand»)) (r .answer) (u32List (r .sizes) (now (keys .exit)) (now (multiplicities .exit))) ⌝ }
+    ensures { λ r. ⌜ Leaves (recordAll (u32List sizes (now (keys .entry)) (now (multiplicities .entry))) (entry opcode «left_operand» «right_operand»)) (recordedAnswer (r .answer)) (u32List (r .sizes) (now (keys .exit)) (now (multiplicities .exit))) ⌝ }
 {
-    if let Judgement::Declined(reason) = list::list_shape(sizes, keys, multiplicities) {
-        return declined(sizes, reason);
-    }
-    match U32TableEntry::new(opcode, left_operand, right_operand).admit() {
-        Admission::Refused(reason) => declined(sizes, reason),
-        Admission::Admitted(e) => {
-            let used = sizes.used;
-            let at = list::find(keys, used, e);
-            if at < used {
-                let multiplicity = multiplicities[at];
-                if MULTIPLICITY_LIMIT <= multiplicity {
-                    return declined(sizes, Refusal::CountFull);
-                }
-                multiplicities[at] = multiplicity + 1;
-                return Recording {
-                    answer: Recorded::At(at),
-                    sizes,
-                };
-            }
-            let capacity = sizes.capacity;
-            if capacity <= used {
-                return declined(sizes, Refusal::ListFull);
-            }
-            list::put_key(keys, used, e);
-            multiplicities[used] = 1;
-            Recording {
-                answer: Recorded::At(used),
-                sizes: Sizes {
-                    capacity,
-                    used: used + 1,
-                },
-            }
-        }
-    }
+    let place = find_place(
+        sizes,
+        keys,
+        multiplicities,
+        opcode,
+        left_operand,
+        right_operand,
+    );
+    store(sizes, keys, multiplicities, place)
 }
 
 // The same recording, with the sizes lent.
@@ -129,7 +178,7 @@ pub fn record_u32_table_entry(
     left_operand: u64,
     right_operand: u64,
 ) -> Recorded
-    ensures { λ r. ⌜ IsRecorded (recordAll (u32List (now (sizes .entry)) (now (keys .entry)) (now (multiplicities .entry))) (entry opcode «left_operand» «right_operand»)) r (u32List (now (sizes .exit)) (now (keys .exit)) (now (multiplicities .exit))) ⌝ }
+    ensures { λ r. ⌜ Leaves (recordAll (u32List (now (sizes .entry)) (now (keys .entry)) (now (multiplicities .entry))) (entry opcode «left_operand» «right_operand»)) (recordedAnswer r) (u32List (now (sizes .exit)) (now (keys .exit)) (now (multiplicities .exit))) ⌝ }
 {
     let r = record_u32_table_entry_by_value(
         *sizes,
@@ -141,4 +190,29 @@ pub fn record_u32_table_entry(
     );
     *sizes = r.sizes;
     r.answer
+}
+
+// The same recording for a caller that holds the sizes: they are lent, and come back beside the answer.
+pub fn record_lending(
+    mut held: Sizes,
+    keys: &mut [u64],
+    multiplicities: &mut [u64],
+    opcode: u64,
+    left_operand: u64,
+    right_operand: u64,
+) -> Recording
+    ensures { λ r. ⌜ Leaves (recordAll (u32List held (now (keys .entry)) (now (multiplicities .entry))) (entry opcode «left_operand» «right_operand»)) (recordedAnswer (r .answer)) (u32List (r .sizes) (now (keys .exit)) (now (multiplicities .exit))) ⌝ }
+{
+    let answer = record_u32_table_entry(
+        &mut held,
+        keys,
+        multiplicities,
+        opcode,
+        left_operand,
+        right_operand,
+    );
+    Recording {
+        answer,
+        sizes: held,
+    }
 }

@@ -13,6 +13,7 @@ use borrow.Author.Tests.{eqb-true, eqb-false}
 use lib.Dec.{eqb}
 use lib.ListN.{length, getD, set, replicate}
 use lib.Seq.{getD-set-same, getD-set-other}
+use Rattle.words.specs.Limits.{maxPlaces}
 use Rattle.isa.specs.declared.U32TableEntry.{U32TableEntry}
 use Rattle.isa.specs.Entries.{lhs, rhs}
 use Rattle.list.specs.Keys.{sameKey}
@@ -91,8 +92,11 @@ module _ (heads links : List ℕ) (i b : ℕ) (back : Back links) (low : (k : �
 
 -- ---- buckets of keys
 
+abbrev pub buckets : ℕ
+buckets = 2 * maxPlaces
+
 abbrev pub bucketOf : U32TableEntry → ℕ
-bucketOf e = (e .opcode % 4093 + 67 * (lhs e % 4093) + 1031 * (rhs e % 4093)) % 4096
+bucketOf e = (e .opcode % 4093 + 67 * (lhs e % 4093) + 1031 * (rhs e % 4093)) % buckets
 
 -- the keys on the chain from h that may be equal to e are on the chain from `next`
 abbrev pub Ahead : (ℕ → U32TableEntry) → U32TableEntry → List ℕ → ℕ → ℕ → Type 0

@@ -6,9 +6,9 @@ use mathlib.Core.Logic.{⊎-elim}
 use Prim.Native.Nat.{ℕ, zero, suc, _+_, _≤_, _<_}
 use native.Mathlib.Nat.{eq-or-lt-of-le}
 use native.Mathlib.Omega.{arith}
+use Rattle.words.specs.Places.{placesFrom, places}
 use Rattle.isa.specs.declared.U32TableEntry.{U32TableEntry}
 use Rattle.list.specs.Keys.{sameKey}
-use Rattle.list.specs.Places.{placesFrom, places}
 use Rattle.list_repeats.specs.Repeats.{occurs, repeats}
 
 pub or-true : (a : Bool) → a || true ≡ true

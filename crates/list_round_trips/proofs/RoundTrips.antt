@@ -9,21 +9,25 @@ use Prim.Native.Nat.{ℕ, _≤_, _<_}
 use native.Mathlib.Omega.{arith}
 use lib.ListN.{length, getD, take}
 use lib.Seq.{sets, length-sets}
+use Rattle.words.specs.Limits.{maxPlaces}
 use Rattle.words.specs.Answers.{Answer, done}
-use Rattle.words.specs.declared.Judgement.{Judgement}
-use Rattle.words.specs.declared.Judgement.the-variants.{Fine, Declined}
+use Rattle.words.specs.Outcomes.{Outcome}
+use Rattle.words.specs.declared.Judgement.the-variants.{Fine}
+use Rattle.words.specs.Places.{places, placesFrom}
+use Rattle.words.proofs.Outcomes.{outcome-fine, outcome-done}
 use Rattle.words.proofs.Sets.{sets-front, take-sets-front}
-use Rattle.isa.specs.Entries.{admitted}
-use Rattle.isa.proofs.Entries.{admissible-fine}
+use Rattle.words.proofs.Places.{map-cong, flat-cong}
+use Rattle.isa.specs.Entries.{admitStored, admitted}
+use Rattle.isa.proofs.Entries.{admissible-as-it-is, as-it-is}
 use Rattle.list.specs.Lists.{U32List, capacity, used, keyAt, multiplicityAt, entryAt, listShape, judgeList}
 use Rattle.list.specs.Heights.{sumHeights, listHeight}
 use Rattle.list.proofs.JudgedLists.{Shaped, shaped, list-admitted, admitted-fine, entry-admissible, list-height-small}
-use Rattle.list.specs.Places.{places, placesFrom}
+use Rattle.list.proofs.Places.{section-entries-map}
 use Rattle.list_bytes.specs.Packed.{multiplicityWidth, widthOf, storedLength, storedBytes, storedN, storedHeight, storedEntry, storedMultiplicity, storedEntries}
 use Rattle.list_repeats.specs.Repeats.{repeats}
-use Rattle.list_stored.specs.Stored.{admitStored, readReason, readAs, readAll, replaced, writeReason, writtenAs, AfterWriting, writeAll}
+use Rattle.list_stored.specs.Stored.{readReason, readAll, replaced, writeReason, writeAll}
 use Rattle.list_round_trips.specs.RoundTrips.{ReadsBack, NewForm, WrittenAgain}
-use Rattle.list_bytes.proofs.Places.{length-stored-places, map-cong, flat-cong, section-entries-map}
+use Rattle.list_bytes.proofs.StoredPlaces.{length-stored-places}
 use Rattle.list_stored.proofs.Reasons.{new-long, Readable, readable, readable-fine, writable, write-fine}
 use Rattle.list_bytes.proofs.Replaced.{keysOf, key-put, multiplicity-put}
 use Rattle.list_stored.proofs.Fits.{length-stored}
@@ -33,31 +37,25 @@ use Rattle.list_bytes.proofs.Format.{keysForm, countsForm, formed, width-new, s
 
 pub read-answered : (l : U32List) (s : List ℕ) (n : ℕ) → readAll l s .answer ≡ done (n ∷ []) → readReason l s ≡ Fine
 unfolding readAll
-read-answered l s n e = go (readReason l s) refl e where
-  go : (j : Judgement) → readReason l s ≡ j → readAs j l s .answer ≡ done (n ∷ []) → readReason l s ≡ Fine
-  go Fine h e = h
-  go (Declined reason) h e = absurd (let v = ap (λ (a : Answer). length (a .values)) e in omega arith)
+read-answered l s n e = outcome-done (readReason l s) _ _ _ (ap (λ (a : Answer). a .number) e)
 
 pub write-answered : (l : U32List) (out : List ℕ) (n : ℕ) → writeAll l out .answer ≡ done (n ∷ []) → writeReason l out ≡ Fine
 unfolding writeAll
-write-answered l out n e = go (writeReason l out) refl e where
-  go : (j : Judgement) → writeReason l out ≡ j → writtenAs j l out .answer ≡ done (n ∷ []) → writeReason l out ≡ Fine
-  go Fine h e = h
-  go (Declined reason) h e = absurd (let v = ap (λ (a : Answer). length (a .values)) e in omega arith)
+write-answered l out n e = outcome-done (writeReason l out) _ _ _ (ap (λ (a : Answer). a .number) e)
 
 -- what is due then
-pub read-is : (l : U32List) (s : List ℕ) → readReason l s ≡ Fine → readAll l s ≡ record { answer = done (storedN s ∷ []); list = replaced l s }
+pub read-is : (l : U32List) (s : List ℕ) → readReason l s ≡ Fine → readAll l s ≡ record { answer = done (storedN s ∷ []); left = replaced l s }
 unfolding readAll
-read-is l s e = rw e
+read-is l s e = outcome-fine _ _ _ e
 
 pub written-is : (l : U32List) (out : List ℕ) → writeReason l out ≡ Fine
-    → writeAll l out ≡ record { answer = done (storedLength (used l) ∷ []); bytes = sets out 0 (storedBytes l) }
+    → writeAll l out ≡ record { answer = done (storedLength (used l) ∷ []); left = sets out 0 (storedBytes l) }
 unfolding writeAll
-written-is l out e = rw (e, length-stored-places l)
+written-is l out e = outcome-fine _ _ _ e ∙ rw (length-stored-places l)
 
 pub written-length : (l : U32List) (out : List ℕ) (n : ℕ) → writeAll l out .answer ≡ done (n ∷ []) → n ≡ storedLength (used l)
 written-length l out n a =
-    ap (λ (x : Answer). getD (x .values) 0 0) (sym a ∙ ap (λ (w : AfterWriting). w .answer) (written-is l out (write-answered l out n a)))
+    ap (λ (x : Answer). getD (x .values) 0 0) (sym a ∙ ap (λ (w : Outcome (List ℕ)). w .answer) (written-is l out (write-answered l out n a)))
 
 -- ---- what a list that was read holds
 
@@ -73,8 +71,8 @@ module _ (l : U32List) (s : List ℕ) (h : Readable l s) where
       multiplicity-put (storedMultiplicity s) (storedN s) (l .multiplicities) (omega (arith, h .room)) (replaced l s .sizes) (replaced l s .keys) i p
 
   replaced-entry : (i : ℕ) → i < storedN s → entryAt (replaced l s) i ≡ storedEntry s i
-  unfolding entryAt admitted
-  replaced-entry i p = replaced-key i p
+  unfolding entryAt
+  replaced-entry i p = ap admitted (replaced-key i p) ∙ as-it-is (storedEntry s i) (h .entries i p) .1
 
   replaced-entries : map (entryAt (replaced l s)) (places (storedN s)) ≡ storedEntries s
   replaced-entries = map-cong (entryAt (replaced l s)) (storedEntry s) 0 (storedN s) (λ i p q. replaced-entry i (omega arith))
@@ -86,7 +84,7 @@ height-sum l = ap sumHeights (section-entries-map l)
 -- ---- what was written reads back
 
 module _ (l : U32List) (fine : judgeList l ≡ Fine) where
-  few : used l ≤ 2048
+  few : used l ≤ maxPlaces
   few = let f = list-admitted l fine .shape in omega arith
 
   stored-n : storedN (storedBytes l) ≡ used l
@@ -111,8 +109,7 @@ module _ (l : U32List) (fine : judgeList l ≡ Fine) where
   stored-list = rw stored-n (map-cong (storedEntry (storedBytes l)) (entryAt l) 0 (used l) (λ i p q. stored-entry i (omega arith)))
 
   stored-admitted : (i : ℕ) → i < used l → admitStored (entryAt l i) ≡ Fine
-  unfolding admitStored
-  stored-admitted i p = admissible-fine (entryAt l i) (entry-admissible l fine i p)
+  stored-admitted i p = admissible-as-it-is (entryAt l i) (entry-admissible l fine i p)
 
   module _ (none : repeats (map (entryAt l) (places (used l))) ≡ false) (to : U32List) (sh : Shaped to) (room : used l ≤ capacity to) where
     stored-readable : Readable to (storedBytes l)
@@ -142,12 +139,12 @@ module _ (l : U32List) (fine : judgeList l ≡ Fine) where
 -- Writing has answered n: the first n bytes, read onto any list of right shape with room for the entries, give the same list
 pub written-reads-back : (l to : U32List) (out : List ℕ) (n : ℕ)
     → writeAll l out .answer ≡ done (n ∷ []) → listShape to ≡ Fine → used l ≤ capacity to
-    → ReadsBack l (readAll to (take n (writeAll l out .bytes)))
+    → ReadsBack l (readAll to (take n (writeAll l out .left)))
 written-reads-back l to out n a sh room =
     let e = write-answered l out n a in
     let w = writable l out e in
     let k = written-length l out n a in
-    let b : take n (writeAll l out .bytes) ≡ storedBytes l
+    let b : take n (writeAll l out .left) ≡ storedBytes l
     = rw (written-is l out e) (take-sets-front (storedBytes l) out n (length-stored l ∙ sym k) (omega (arith, w .room))) in
     rw b (stored-reads l (w .list) (w .distinct) to (shaped to sh) room)
 
@@ -165,12 +162,11 @@ module _ (l : U32List) (s : List ℕ) (h : Readable l s) where
       }
 
   replaced-fine : judgeList (replaced l s) ≡ Fine
-  unfolding admitStored
   replaced-fine =
       admitted-fine (replaced l s)
       (record {
         shape = replaced-shape;
-        entry = λ i p. rw (replaced-key l s h i p) (h .entries i p);
+        entry = λ i p. rw (replaced-key l s h i p) (as-it-is (storedEntry s i) (h .entries i p) .0);
         multiplicity = λ i p. rw (replaced-multiplicity l s h i p) (h .counts i p);
       })
 
@@ -222,7 +218,7 @@ module _ (l : U32List) (s : List ℕ) (bytes : (j : ℕ) → getD s j 0 < 256) (
     long = length-stored (replaced l s);
     same-list =
         read-is l (storedBytes (replaced l s)) (readable-fine l (storedBytes (replaced l s)) (again-readable l s h))
-        ∙ ap₂ (λ (n : ℕ) (r : U32List). record { answer = done (n ∷ []); list = r }) (stored-n (replaced l s) (replaced-fine l s h)) (again-list l s h)
+        ∙ ap₂ (λ (n : ℕ) (r : U32List). record { answer = done (n ∷ []); left = r }) (stored-n (replaced l s) (replaced-fine l s h)) (again-list l s h)
         ∙ sym (read-is l s (readable-fine l s h));
     same-bytes = replaced-bytes;
   }
@@ -230,7 +226,7 @@ module _ (l : U32List) (s : List ℕ) (bytes : (j : ℕ) → getD s j 0 < 256) (
 -- Reading has answered n: the list that it left is written in the new form, wherever there is room for it
 pub read-writes-back : (l : U32List) (s out : List ℕ) (n : ℕ) → ((j : ℕ) → getD s j 0 < 256)
     → readAll l s .answer ≡ done (n ∷ []) → storedLength (storedN s) ≤ length out
-    → (t : List ℕ) × NewForm l s t × WrittenAgain t out (writeAll (readAll l s .list) out)
+    → (t : List ℕ) × NewForm l s t × WrittenAgain t out (writeAll (readAll l s .left) out)
 read-writes-back l s out n bytes a room =
     let e = read-answered l s n a in
     let h = readable l s e in
@@ -243,5 +239,5 @@ read-writes-back l s out n bytes a room =
     )
 
 -- a list that was read is admitted
-pub read-list-fine : (l : U32List) (s : List ℕ) → readReason l s ≡ Fine → judgeList (readAll l s .list) ≡ Fine
+pub read-list-fine : (l : U32List) (s : List ℕ) → readReason l s ≡ Fine → judgeList (readAll l s .left) ≡ Fine
 read-list-fine l s e = rw (read-is l s e) (replaced-fine l s (readable l s e))

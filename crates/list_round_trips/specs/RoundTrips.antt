@@ -4,13 +4,12 @@ use Prim.Native.Nat.{ℕ, _≤_, _<_}
 use mathlib.Core.Path.{_≡_}
 use mathlib.Core.List.{List, [], _∷_, _++_}
 use lib.ListN.{length, take, drop}
-use Rattle.words.specs.Answers.{done, declined}
-use Rattle.words.specs.declared.Judgement.{Judgement}
-use Rattle.words.specs.declared.Judgement.the-variants.{Fine, Declined}
+use Rattle.words.specs.Answers.{done}
+use Rattle.words.specs.Outcomes.{Outcome, Leaves, unlessDeclined}
+use Rattle.words.specs.declared.Judgement.the-variants.{Fine}
 use Rattle.list.specs.Lists.{U32List, capacity, used, entryAt, multiplicityAt, listShape}
-use Rattle.list_record.specs.Recording.{After}
 use Rattle.list_bytes.specs.Packed.{storedPlaces, storedLength, storedN}
-use Rattle.list_stored.specs.Stored.{readReason, readAll, readAnswer, IsRead, writeReason, AfterWriting, writeAll, writtenAnswer, IsWritten}
+use Rattle.list_stored.specs.Stored.{readReason, readAll, readAnswer, writeReason, writeAll, writtenAnswer}
 use Rattle.list_stored.specs.declared.Read.{Read}
 use Rattle.list_stored.specs.declared.Written.{Written}
 
@@ -21,14 +20,14 @@ pub record SameList (a b : U32List) : Type 0 where
   pub multiplicities : (i : ℕ) → i < used b → multiplicityAt a i ≡ multiplicityAt b i
 
 -- a reading has answered the number of entries of the list l, and left the same list
-pub record ReadsBack (l : U32List) (reading : After) : Type 0 where
+pub record ReadsBack (l : U32List) (reading : Outcome U32List) : Type 0 where
   pub answer : reading .answer ≡ done (used l ∷ [])
-  pub list : SameList (reading .list) l
+  pub list : SameList (reading .left) l
 
 -- a writing to `out` has answered the length of the bytes s, and left them there; what follows them is as it was
-pub record WrittenAgain (s out : List ℕ) (writing : AfterWriting) : Type 0 where
+pub record WrittenAgain (s out : List ℕ) (writing : Outcome (List ℕ)) : Type 0 where
   pub answer : writing .answer ≡ done (length s ∷ [])
-  pub bytes : writing .bytes ≡ s ++ drop (length s) out
+  pub bytes : writing .left ≡ s ++ drop (length s) out
 
 -- "'same bytes again' holds for lists of the new length, and an old one is written to the new form of the same list": t has the new length,
 -- holds the list that s holds, and is s itself where s has the new length
@@ -38,30 +37,23 @@ pub record NewForm (l : U32List) (s t : List ℕ) : Type 0 where
   pub same-bytes : length s ≡ storedLength (storedN s) → t ≡ s
 
 -- Writing the list l to `out`, then reading what was written onto another list; nothing is read where writing refuses
-abbrev pub writtenThenRead : Judgement → U32List → List ℕ → U32List → After
-writtenThenRead Fine l out to = readAll to (take (storedLength (length (storedPlaces l))) (writeAll l out .bytes))
-writtenThenRead (Declined reason) l out to = record { answer = declined reason; list = to }
-
-unfoldable pub writeThenRead : U32List → List ℕ → U32List → After
-writeThenRead l out to = writtenThenRead (writeReason l out) l out to
+unfoldable pub writeThenRead : U32List → List ℕ → U32List → Outcome U32List
+writeThenRead l out to =
+    unlessDeclined (writeReason l out) to (readAll to (take (storedLength (length (storedPlaces l))) (writeAll l out .left)))
 
 -- What both calls leave, and the law: a list that is not refused reads back, onto any list of right shape with room for it
 pub record IsWrittenThenRead (l : U32List) (out : List ℕ) (to : U32List) (r : Read) (outAfter : List ℕ) (after : U32List) : Type 0 where
-  pub exact : IsRead (writeThenRead l out to) r after
-  pub bytes : outAfter ≡ writeAll l out .bytes
-  pub law : writeReason l out ≡ Fine → listShape to ≡ Fine → used l ≤ capacity to → ReadsBack l (record { answer = readAnswer r; list = after })
+  pub exact : Leaves (writeThenRead l out to) (readAnswer r) after
+  pub bytes : outAfter ≡ writeAll l out .left
+  pub law : writeReason l out ≡ Fine → listShape to ≡ Fine → used l ≤ capacity to → ReadsBack l (record { answer = readAnswer r; left = after })
 
 -- Reading the bytes s onto the list l, then writing the list to `out`; nothing is written where reading refuses
-abbrev pub readThenWritten : Judgement → U32List → List ℕ → List ℕ → AfterWriting
-readThenWritten Fine l s out = writeAll (readAll l s .list) out
-readThenWritten (Declined reason) l s out = record { answer = declined reason; bytes = out }
-
-unfoldable pub readThenWrite : U32List → List ℕ → List ℕ → AfterWriting
-readThenWrite l s out = readThenWritten (readReason l s) l s out
+unfoldable pub readThenWrite : U32List → List ℕ → List ℕ → Outcome (List ℕ)
+readThenWrite l s out = unlessDeclined (readReason l s) out (writeAll (readAll l s .left) out)
 
 -- What both calls leave, and the law: bytes that are not refused are written again in the new form, wherever there is room for it
 pub record IsReadThenWritten (l : U32List) (s out : List ℕ) (r : Written) (after : U32List) (outAfter : List ℕ) : Type 0 where
-  pub exact : IsWritten (readThenWrite l s out) r outAfter
-  pub list : after ≡ readAll l s .list
+  pub exact : Leaves (readThenWrite l s out) (writtenAnswer r) outAfter
+  pub list : after ≡ readAll l s .left
   pub law : readReason l s ≡ Fine → storedLength (storedN s) ≤ length out
-      → (t : List ℕ) × NewForm l s t × WrittenAgain t out (record { answer = writtenAnswer r; bytes = outAfter })
+      → (t : List ℕ) × NewForm l s t × WrittenAgain t out (record { answer = writtenAnswer r; left = outAfter })

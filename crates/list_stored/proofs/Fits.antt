@@ -5,13 +5,14 @@ use Prim.Native.Nat.{ℕ, _≤_}
 use native.Mathlib.Omega.{arith}
 use lib.ListN.{length}
 use Rattle.words.specs.declared.Judgement.the-variants.{Fine}
+use Rattle.words.specs.Places.{places}
+use Rattle.words.proofs.Places.{length-map}
 use Rattle.list.specs.Lists.{U32List, used, entryAt, multiplicityAt}
 use Rattle.list.specs.Heights.{listHeight}
-use Rattle.list.specs.Places.{places}
 use Rattle.list_bytes.specs.Packed.{multiplicityWidth, storedLength, storedBytes, storedN, storedEntry, storedMultiplicity}
 use Rattle.list_stored.specs.Stored.{readReason, writeReason}
 use Rattle.list_stored.proofs.Reasons.{readable, writable}
-use Rattle.list_bytes.proofs.Replaced.{keysOf, length-keys-of, length-map}
+use Rattle.list_bytes.proofs.Replaced.{keysOf, length-keys-of}
 use Rattle.list_bytes.proofs.Format.{stored-formed, length-formed}
 
 pub length-stored : (l : U32List) → length (storedBytes l) ≡ storedLength (used l)

@@ -14,18 +14,21 @@ use lib.Seq.{sets}
 use Rattle.words.specs.declared.Judgement.the-variants.{Fine, Declined}
 use Rattle.words.specs.declared.Refusal.{Refusal}
 use Rattle.words.specs.declared.Refusal.the-variants.{CountFull, ListFull, Short, Torn, Repeat, Tally}
-use Rattle.words.specs.Limits.{multiplicityLimit}
+use Rattle.words.specs.Limits.{maxPlaces, multiplicityLimit}
+use Rattle.words.specs.Outcomes.{Leaves}
+use Rattle.words.specs.Places.{places}
 use Rattle.words.proofs.Judgements.{or-first, or-next, or-both, decline-fine, decline-true, decline-false, decline-not-fine, first-fine, first-none}
-use Rattle.list.specs.Lists.{U32List, u32List, capacity, used, entryAt, listShape, countFull, judgeList}
-use Rattle.list.specs.Heights.{sumHeights}
+use Rattle.isa.specs.Entries.{entryWords, admitStored}
+use Rattle.list.specs.Lists.{U32List, u32List, capacity, used, entryAt, listShape, countFull, judgeEntryBy, judgeList}
+use Rattle.list.specs.Heights.{sumHeights, listHeight}
 use Rattle.list.proofs.JudgedLists.{Shaped, shaped, shape-fine}
 use Rattle.list_stored.specs.declared.Read.the-variants.{Entries, Refused}
 use Rattle.list_stored.specs.declared.Written.the-variants.{Length, Refused as WriteRefused}
-use Rattle.list.specs.Places.{places}
-use Rattle.list_bytes.specs.Packed.{storedPlaces, lengthWith, storedLength, oldLength, widthOf, storedBytes, storedN, storedHeight, storedEntry, storedMultiplicity, storedEntries, keyWords}
+use Rattle.list_bytes.specs.Packed.{headWidth, storedPlaces, lengthWith, storedLength, oldLength, widthOf, bytesWith, storedBytes}
+use Rattle.list_bytes.specs.Packed.{storedN, storedHeight, storedEntry, storedMultiplicity, storedEntries}
 use Rattle.list_repeats.specs.Repeats.{repeats}
-use Rattle.list_stored.specs.Stored.{torn, admitStored, judgeStored, tally, contentReason, readReason, readAll, IsRead, writeReason, writeAll, IsWritten}
-use Rattle.list_bytes.proofs.Places.{length-stored-places, stored-entries}
+use Rattle.list_stored.specs.Stored.{torn, judgeStored, tally, contentReason, readReason, readAll, readAnswer, writeReason, writeAll, writtenAnswer}
+use Rattle.list_bytes.proofs.StoredPlaces.{length-stored-places, stored-entries}
 use Rattle.list_bytes.proofs.Format.{width-old, width-other}
 use Rattle.list_repeats.proofs.Repeats.{or-true}
 
@@ -36,7 +39,7 @@ both-false false b e = (refl, e)
 both-false true b e = absurd (let z : _≡_ {A = ℕ} 0 1 = cc in omega arith)
 
 pub record Whole (s : List ℕ) : Type 0 where
-  pub few : storedN s ≤ 2048
+  pub few : storedN s ≤ maxPlaces
   pub long : length s ≡ lengthWith (widthOf s) (storedN s)
 
 both-not : (a b : Bool) → not (a || b) ≡ false → (a ≡ true) ⊎ (b ≡ true)
@@ -64,7 +67,7 @@ pub whole : (s : List ℕ) → torn s ≡ Fine → Whole s
 unfolding torn
 whole s e =
     let a = both-false _ _ (decline-fine _ Torn e) in
-    record { few = ltb-false 2048 (storedN s) (a .0); long = go (both-not _ _ (a .1)) }
+    record { few = ltb-false maxPlaces (storedN s) (a .0); long = go (both-not _ _ (a .1)) }
   where
     go : (eqb (length s) (oldLength (storedN s)) ≡ true) ⊎ (eqb (length s) (storedLength (storedN s)) ≡ true)
         → length s ≡ lengthWith (widthOf s) (storedN s)
@@ -83,30 +86,30 @@ module _ (s : List ℕ) where
 
   pub whole-fine : Whole s → torn s ≡ Fine
   unfolding torn
-  whole-fine h = rw (le-ltb 2048 (storedN s) (h .few), whole-right h)
+  whole-fine h = rw (le-ltb maxPlaces (storedN s) (h .few), whole-right h)
 
-  pub torn-many : 2048 < storedN s → torn s ≡ Declined Torn
+  pub torn-many : maxPlaces < storedN s → torn s ≡ Declined Torn
   unfolding torn
-  torn-many h = rw (lt-ltb 2048 (storedN s) h)
+  torn-many h = rw (lt-ltb maxPlaces (storedN s) h)
 
   pub torn-length : (length s ≡ oldLength (storedN s) → ⊥) → (length s ≡ storedLength (storedN s) → ⊥) → torn s ≡ Declined Torn
   unfolding torn
   torn-length f g = rw (ne-eqb (length s) (oldLength (storedN s)) f, ne-eqb (length s) (storedLength (storedN s)) g, or-true)
 
   -- bytes too few for the number of entries and the height
-  pub torn-short : length s < 8 → torn s ≡ Declined Torn
+  pub torn-short : length s < headWidth → torn s ≡ Declined Torn
   torn-short h = torn-length (λ e. omega arith) (λ e. omega arith)
 
 -- ---- reading
 
 stored-told : (s : List ℕ) (i : ℕ) → judgeStored s i ≡ Fine → (admitStored (storedEntry s i) ≡ Fine) × (storedMultiplicity s i ≤ multiplicityLimit)
-unfolding judgeStored countFull
+unfolding judgeStored judgeEntryBy countFull
 stored-told s i e =
     let a = or-both _ _ e in
     (a .0, ltb-false multiplicityLimit (storedMultiplicity s i) (decline-fine _ CountFull (a .1)))
 
 stored-fine : (s : List ℕ) (i : ℕ) → admitStored (storedEntry s i) ≡ Fine → storedMultiplicity s i ≤ multiplicityLimit → judgeStored s i ≡ Fine
-unfolding judgeStored countFull
+unfolding judgeStored judgeEntryBy countFull
 stored-fine s i e m = or-next _ e ∙ decline-false CountFull (le-ltb multiplicityLimit (storedMultiplicity s i) m)
 
 pub record Readable (l : U32List) (s : List ℕ) : Type 0 where
@@ -166,16 +169,16 @@ module _ (l : U32List) (s : List ℕ) where
     read-content e h = or-next _ sh ∙ or-next _ e ∙ or-next _ (decline-false ListFull (le-ltb (capacity l) (storedN s) h))
 
   -- what is due then
-  pub read-refused : {k : Refusal} → readReason l s ≡ Declined k → IsRead (readAll l s) (Refused k) l
+  pub read-refused : {k : Refusal} → readReason l s ≡ Declined k → Leaves (readAll l s) (readAnswer (Refused k)) l
   unfolding readAll
-  read-refused e = rw e (record { answer = refl; list = refl })
+  read-refused e = rw e (record { answer = refl; left = refl })
 
   pub read-done : (n : ℕ) (ks ms : List ℕ) → readReason l s ≡ Fine → n ≡ storedN s
-      → ks ≡ sets (l .keys) 0 (flatMap (λ i. keyWords (storedEntry s i)) (places n))
+      → ks ≡ sets (l .keys) 0 (flatMap (λ i. entryWords (storedEntry s i)) (places n))
       → ms ≡ sets (l .multiplicities) 0 (map (storedMultiplicity s) (places n))
-      → IsRead (readAll l s) (Entries n) (u32List (record { capacity = capacity l; used = n }) ks ms)
+      → Leaves (readAll l s) (readAnswer (Entries n)) (u32List (record { capacity = capacity l; used = n }) ks ms)
   unfolding readAll
-  read-done n ks ms e en ek em = rw (e, ek, em, en) (record { answer = refl; list = refl })
+  read-done n ks ms e en ek em = rw (e, ek, em, en) (record { answer = refl; left = refl })
 
 -- ---- writing
 
@@ -223,12 +226,12 @@ module _ (l : U32List) (out : List ℕ) where
           ∙ rw (length-stored-places l, le-ltb (length out) (storedLength (used l)) h)
 
   -- what is due then
-  pub written-refused : {k : Refusal} → writeReason l out ≡ Declined k → IsWritten (writeAll l out) (WriteRefused k) out
+  pub written-refused : {k : Refusal} → writeReason l out ≡ Declined k → Leaves (writeAll l out) (writtenAnswer (WriteRefused k)) out
   unfolding writeAll
-  written-refused e = rw e (record { answer = refl; bytes = refl })
+  written-refused e = rw e (record { answer = refl; left = refl })
 
-  pub written-done : (n : ℕ) (after : List ℕ) → writeReason l out ≡ Fine → n ≡ storedLength (used l) → after ≡ sets out 0 (storedBytes l)
-      → IsWritten (writeAll l out) (Length n) after
-  unfolding writeAll
-  written-done n after e en eb =
-      rw (e, length-stored-places l, en, eb) (record { answer = refl; bytes = refl })
+  pub written-done : (n h : ℕ) (after : List ℕ) → writeReason l out ≡ Fine → n ≡ storedLength (used l) → h ≡ listHeight l
+      → after ≡ sets out 0 (bytesWith h l) → Leaves (writeAll l out) (writtenAnswer (Length n)) after
+  unfolding writeAll storedBytes
+  written-done n h after e en eh eb =
+      rw (e, length-stored-places l, en, eb, eh) (record { answer = refl; left = refl })

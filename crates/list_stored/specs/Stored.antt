@@ -1,29 +1,26 @@
 -- Stored lists (document 01, "Recording and stored lists" and "Reasons to decline"): reading and writing.
 use Prim.Native.Nat.{ℕ}
-use mathlib.Core.Path.{_≡_}
-use mathlib.Core.Bool.{not, _||_}
+use mathlib.Core.Bool.{true, not, _||_}
 use mathlib.Core.List.{List, [], _∷_, map, flatMap}
 use lib.Dec.{eqb, ltb}
 use lib.ListN.{length}
 use lib.Seq.{sets}
 use Rattle.words.specs.Limits.{maxPlaces}
 use Rattle.words.specs.Answers.{Answer, done, declined}
+use Rattle.words.specs.Outcomes.{Outcome, outcome}
 use Rattle.words.specs.Refusals.{declineIf, orElse, firstReason}
 use Rattle.words.specs.declared.Judgement.{Judgement}
-use Rattle.words.specs.declared.Judgement.the-variants.{Fine, Declined}
-use Rattle.words.specs.declared.Refusal.the-variants.{CountFull, ListFull, Short, Torn, Repeat, Tally}
-use Rattle.isa.specs.declared.U32TableEntry.{U32TableEntry}
-use Rattle.isa.specs.Entries.{judgeEntry}
-use Rattle.list.specs.Lists.{U32List, u32List, capacity, listShape, countFull, judgeList}
+use Rattle.words.specs.declared.Refusal.the-variants.{ListFull, Short, Torn, Repeat, Tally}
+use Rattle.words.specs.Places.{places}
+use Rattle.isa.specs.Entries.{entryWords}
+use Rattle.list.specs.Lists.{U32List, u32List, capacity, listShape, judgeCounted, judgeList}
 use Rattle.list.specs.Heights.{entriesAt, sumHeights}
-use Rattle.list_record.specs.Recording.{After}
-use Rattle.list_bytes.specs.Packed.{storedPlaces, storedLength, oldLength, storedBytes, storedN, storedHeight, storedEntry, storedMultiplicity, storedEntries, keyWords}
+use Rattle.list_bytes.specs.Packed.{storedPlaces, storedLength, oldLength, storedBytes, storedN, storedHeight, storedEntry, storedMultiplicity, storedEntries}
 use Rattle.list_repeats.specs.Repeats.{repeats}
 use Rattle.list_stored.specs.declared.Read.{Read}
 use Rattle.list_stored.specs.declared.Read.the-variants.{Entries, Refused}
 use Rattle.list_stored.specs.declared.Written.{Written}
 use Rattle.list_stored.specs.declared.Written.the-variants.{Length, Refused as WriteRefused}
-use Rattle.list.specs.Places.{places}
 
 -- 10: "stored length wrong or N above 2,048". Two lengths are right: 8 + 25·N, and "Lists of the old length are still read". Bytes too few to
 -- hold N have a wrong length too: none is shorter than 8
@@ -34,17 +31,13 @@ torn s =
     || not (eqb (length s) (oldLength (storedN s)) || eqb (length s) (storedLength (storedN s))))
     Torn
 
--- 2 to 4 for a stored entry, which is taken as it stands in the bytes
-unfoldable pub admitStored : U32TableEntry → Judgement
-admitStored e = judgeEntry e
-
 -- 12: "stored height is not the sum"
 unfoldable pub tally : List ℕ → Judgement
 tally s = declineIf (not (eqb (storedHeight s) (sumHeights (storedEntries s)))) Tally
 
--- "Reading meets 5 after 4, entry by entry"
+-- "Reading meets 5 after 4, entry by entry", 2 to 4 by the rule of stored bytes
 unfoldable pub judgeStored : List ℕ → ℕ → Judgement
-judgeStored s i = orElse (admitStored (storedEntry s i)) (declineIf (countFull (storedMultiplicity s i)) CountFull)
+judgeStored s i = judgeCounted true (storedEntry s i) (storedMultiplicity s i)
 
 -- ".. then 2 to 5 entry by entry, 11, 12"
 unfoldable pub contentReason : List ℕ → Judgement
@@ -65,26 +58,16 @@ readReason l s =
 abbrev pub replaced : U32List → List ℕ → U32List
 replaced l s =
     u32List (record { capacity = capacity l; used = storedN s })
-    (sets (l .keys) 0 (flatMap (λ i. keyWords (storedEntry s i)) (places (storedN s))))
+    (sets (l .keys) 0 (flatMap (λ i. entryWords (storedEntry s i)) (places (storedN s))))
     (sets (l .multiplicities) 0 (map (storedMultiplicity s) (places (storedN s))))
 
--- a refusal "changes nothing lent"
-abbrev pub readAs : Judgement → U32List → List ℕ → After
-readAs Fine l s = record { answer = done (storedN s ∷ []); list = replaced l s }
-readAs (Declined reason) l s = record { answer = declined reason; list = l }
-
-unfoldable pub readAll : U32List → List ℕ → After
-readAll l s = readAs (readReason l s) l s
+unfoldable pub readAll : U32List → List ℕ → Outcome U32List
+readAll l s = outcome (readReason l s) (storedN s ∷ []) l (replaced l s)
 
 -- what the answer of a reading means
 abbrev pub readAnswer : Read → Answer
 readAnswer (Entries n) = done (n ∷ [])
 readAnswer (Refused reason) = declined reason
-
--- the answer, the sizes and both arrays are those that are due
-pub record IsRead (due : After) (r : Read) (after : U32List) : Type 0 where
-  pub answer : readAnswer r ≡ due .answer
-  pub list : after ≡ due .list
 
 -- "Write 1, 2 to 5 entry by entry, 11, 7"; 7 is "output bytes too few"
 unfoldable pub writeReason : U32List → List ℕ → Judgement
@@ -93,26 +76,11 @@ writeReason l out =
     (orElse (declineIf (repeats (entriesAt l (storedPlaces l))) Repeat)
     (declineIf (ltb (length out) (storedLength (length (storedPlaces l)))) Short))
 
--- the bytes lent after a writing, and its answer
-pub record AfterWriting : Type 0 where
-  pub answer : Answer
-  pub bytes : List ℕ
-
 -- "writing .. answers the length. .. bytes past the end, are untouched."
-abbrev pub writtenAs : Judgement → U32List → List ℕ → AfterWriting
-writtenAs Fine l out =
-    record { answer = done (storedLength (length (storedPlaces l)) ∷ []); bytes = sets out 0 (storedBytes l) }
-writtenAs (Declined reason) l out = record { answer = declined reason; bytes = out }
-
-unfoldable pub writeAll : U32List → List ℕ → AfterWriting
-writeAll l out = writtenAs (writeReason l out) l out
+unfoldable pub writeAll : U32List → List ℕ → Outcome (List ℕ)
+writeAll l out = outcome (writeReason l out) (storedLength (length (storedPlaces l)) ∷ []) out (sets out 0 (storedBytes l))
 
 -- what the answer of a writing means
 abbrev pub writtenAnswer : Written → Answer
 writtenAnswer (Length n) = done (n ∷ [])
 writtenAnswer (WriteRefused reason) = declined reason
-
--- the answer and the bytes are those that are due
-pub record IsWritten (due : AfterWriting) (r : Written) (out : List ℕ) : Type 0 where
-  pub answer : writtenAnswer r ≡ due .answer
-  pub bytes : out ≡ due .bytes

@@ -3,10 +3,12 @@ ghost use mathlib.Core.Path.{_≡_};
 ghost use Prim.Native.Nat.{_≤_};
 ghost use lib.ListN.{length};
 ghost use Rattle.words.specs.Limits.{maxPlaces};
+ghost use Rattle.words.specs.Outcomes.{Leaves};
 ghost use Rattle.list.specs.Lists.{u32List};
 ghost use Rattle.list_bytes.specs.Packed.{lengthWith, widthOf, storedLength, oldLength, storedN};
-ghost use Rattle.list_stored.specs.Stored.{contentReason, readReason, readAll, IsRead, writeAll, IsWritten};
+ghost use Rattle.list_stored.specs.Stored.{contentReason, readReason, readAll, readAnswer, writeAll, writtenAnswer};
 ghost use Rattle.list_stored.specs.Stored.{torn as Stored·torn};
+use isa::U32TableEntry;
 use list::Judged;
 use list::Sizes;
 use words::Judgement;
@@ -65,19 +67,15 @@ fn torn(bytes: &[u8]) -> Judgement
     Judgement::Fine
 }
 
-// Reasons 2 to 5 entry by entry, 11 and 12 against what the bytes hold. It is judged on a copy.
+// Reasons 2 to 5 entry by entry, 11 and 12 against what the bytes hold. It is judged on a copy, by the rule of stored bytes.
 fn judge_content(bytes: &[u8], n: usize) -> Judgement
     requires { ⌜ (n ≡ storedN (now bytes)) × (n ≤ maxPlaces) × (lengthWith (widthOf (now bytes)) n ≤ length (now bytes)) ⌝ }
     ensures { λ r. ⌜ r ≡ contentReason (now (bytes .entry)) ⌝ }
 {
-    let mut keys = [0u64; 6144];
-    let mut multiplicities = [0u64; 2048];
+    let mut keys = [0u64; U32TableEntry::WIDTH * MAX_PLACES];
+    let mut multiplicities = [0u64; MAX_PLACES];
     list_bytes::unpack(bytes, n, &mut keys, &mut multiplicities);
-    let sizes = Sizes {
-        capacity: MAX_PLACES,
-        used: n,
-    };
-    match list::judge_list(sizes, &keys, &multiplicities) {
+    match list::judge_places(true, n, &keys, &multiplicities) {
         Judged::Refused(reason) => Judgement::Declined(reason),
         Judged::Height(height) => {
             if list_repeats::has_repeats(&keys, n) {
@@ -115,7 +113,7 @@ pub fn read_list(
     keys: &mut [u64],
     multiplicities: &mut [u64],
 ) -> Reading
-    ensures { λ r. ⌜ IsRead (readAll (u32List sizes (now (keys .entry)) (now (multiplicities .entry))) (now (bytes .entry))) (r .answer) (u32List (r .sizes) (now (keys .exit)) (now (multiplicities .exit))) ⌝ }
+    ensures { λ r. ⌜ Leaves (readAll (u32List sizes (now (keys .entry)) (now (multiplicities .entry))) (now (bytes .entry))) (readAnswer (r .answer)) (u32List (r .sizes) (now (keys .exit)) (now (multiplicities .exit))) ⌝ }
 {
     match judge_reading(bytes, sizes, keys, multiplicities) {
         Judgement::Declined(reason) => Reading {
@@ -138,7 +136,7 @@ pub fn read_list(
 
 // Writes a list as stored bytes, and answers their number.
 pub fn write_list(sizes: Sizes, keys: &[u64], multiplicities: &[u64], out: &mut [u8]) -> Written
-    ensures { λ r. ⌜ IsWritten (writeAll (u32List sizes (now (keys .entry)) (now (multiplicities .entry))) (now (out .entry))) r (now (out .exit)) ⌝ }
+    ensures { λ r. ⌜ Leaves (writeAll (u32List sizes (now (keys .entry)) (now (multiplicities .entry))) (now (out .entry))) (writtenAnswer r) (now (out .exit)) ⌝ }
 {
     match list::judge_list(sizes, keys, multiplicities) {
         Judged::Refused(reason) => Written::Refused(reason),

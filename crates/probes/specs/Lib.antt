@@ -1,1 +1,3 @@
 pub mod Probes
+pub mod ExtensionProbes
+pub mod Operations

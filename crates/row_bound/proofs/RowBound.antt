@@ -14,22 +14,21 @@ use native.Mathlib.Omega.{arith}
 use lib.Dec.{eqb}
 use lib.ListN.{length, getD}
 use borrow.Author.Tests.{eqb-true, eqb-false, eq-eqb}
-use Rattle.words.specs.Answers.{Answer, done}
-use Rattle.words.specs.declared.Judgement.{Judgement}
-use Rattle.words.specs.declared.Judgement.the-variants.{Fine, Declined}
+use Rattle.words.specs.Answers.{done}
+use Rattle.words.proofs.Outcomes.{done-fine}
 use Rattle.isa.specs.Opcodes.{opPow}
 use Rattle.isa.specs.declared.U32TableEntry.{U32TableEntry}
 use Rattle.isa.specs.Entries.{dominant, height}
 use Rattle.isa.proofs.Logarithm.{height-below}
 use Rattle.list.specs.Lists.{U32List}
-use Rattle.list.specs.Heights.{sectionEntries, sectionPlaces, sumHeights, listHeight}
-use Rattle.air.specs.Columns.{Row, rowAt, rowCount, allReduced}
+use Rattle.list.specs.Heights.{sectionEntries, sumHeights, listHeight}
+use Rattle.table.specs.Columns.{Row, rowAt, rowCount, allReduced}
 use Rattle.air.specs.Check.{ConstraintsHold}
 use Rattle.air.proofs.Descent.{Descent, first-ok, bits-zero, steps-bound, rhs-bound, lhs-bound}
 use Rattle.air.proofs.Soundness.{DescentIn, from-row}
 use Rattle.air.proofs.Judging.{accepted}
 use Rattle.air.proofs.Claims.{zero-iff}
-use Rattle.fill.specs.Filling.{Sections, joined, noSections, sectionsAt, fillReason, filledAs, fillAll}
+use Rattle.fill.specs.Filling.{filled, fillReason, fillAll}
 use Rattle.row_bound.specs.OwnRows.{entryOf, entryIn, NoShorter, NoShorterThanFilled, NoneShorterPasses}
 use Rattle.row_bound.proofs.Weights.{sumTo, sum-ext, sum-first, picked, runs-fit}
 
@@ -118,14 +117,11 @@ no-shorter table aux challenges e es own o =
     omega arith
 
 -- the height that fill answers is the list's
-answered : (j : Judgement) (ss : Sections) (height h : ℕ) (table : List ℕ) → filledAs j ss height table .answer ≡ done (h ∷ []) → h ≡ height
-answered Fine (joined rs) height h table e = let z = ap (λ (a : Answer). getD (a .values) 0 0) e in omega arith
-answered Fine noSections height h table e = absurd (let z = ap (λ (a : Answer). length (a .values)) e in omega arith)
-answered (Declined k) ss height h table e = absurd (let z = ap (λ (a : Answer). length (a .values)) e in omega arith)
-
 filled-height : (l : U32List) (table : List ℕ) (h : ℕ) → fillAll l table .answer ≡ done (h ∷ []) → h ≡ listHeight l
 unfolding fillAll
-filled-height l table h e = answered (fillReason l table) (sectionsAt l (sectionPlaces l)) (listHeight l) h table e
+filled-height l table h e =
+    let height = done-fine (fillReason l table) (listHeight l ∷ []) table (filled l table) e .1 in
+    sym (ap (λ (values : List ℕ). getD values 0 0) height)
 
 -- "that table has at least as many rows as the height that filling reports for the list"
 pub no-shorter-than-filled : (table aux challenges : List ℕ) → NoShorterThanFilled table aux challenges

@@ -11,8 +11,8 @@ use Rattle.isa.specs.Entries.{entry}
 use Rattle.words.specs.Answers.{done}
 use Rattle.list.specs.Lists.{U32List}
 use Rattle.list.specs.Heights.{sectionEntries, sumHeights}
-use Rattle.air.specs.Columns.{Row, rowAt, rowCount}
-use Rattle.air.specs.Check.{checkAll}
+use Rattle.table.specs.Columns.{Row, rowAt, rowCount}
+use Rattle.air.specs.Check.{zeroAnswer, checkAll}
 use Rattle.fill.specs.Filling.{fillAll}
 
 -- "with its CI, LHS and RHS": the entry that a row is about
@@ -35,16 +35,16 @@ pub record OwnRows (table : List ℕ) (es : List U32TableEntry) (own : ℕ → �
 -- condition, since the CopyFlag 1 rows of such a table are in range; nor is it that there is a row, since the check refuses a table of none
 abbrev pub NoShorter : (table aux challenges : List ℕ) → Type 0
 NoShorter table aux challenges =
-    checkAll table aux challenges ≡ done [] → (es : List U32TableEntry) (own : ℕ → ℕ) → OwnRows table es own → sumHeights es ≤ rowCount table
+    checkAll table aux challenges ≡ zeroAnswer → (es : List U32TableEntry) (own : ℕ → ℕ) → OwnRows table es own → sumHeights es ≤ rowCount table
 
 -- "at least as many rows as the height that filling reports for the list", of whatever table was lent to it
 abbrev pub NoShorterThanFilled : (table aux challenges : List ℕ) → Type 0
 NoShorterThanFilled table aux challenges =
-    checkAll table aux challenges ≡ done [] → (l : U32List) (own : ℕ → ℕ) → OwnRows table (sectionEntries l) own
+    checkAll table aux challenges ≡ zeroAnswer → (l : U32List) (own : ℕ → ℕ) → OwnRows table (sectionEntries l) own
     → (lent : List ℕ) (h : ℕ) → fillAll l lent .answer ≡ done (h ∷ []) → h ≤ rowCount table
 
 -- "No shorter honest table": none with fewer rows than fill reports passes, if each entry of the list has a row of its own there
 abbrev pub NoneShorterPasses : (table aux challenges : List ℕ) → Type 0
 NoneShorterPasses table aux challenges =
     (l : U32List) (own : ℕ → ℕ) → OwnRows table (sectionEntries l) own
-    → (lent : List ℕ) (h : ℕ) → fillAll l lent .answer ≡ done (h ∷ []) → rowCount table < h → checkAll table aux challenges ≢ done []
+    → (lent : List ℕ) (h : ℕ) → fillAll l lent .answer ≡ done (h ∷ []) → rowCount table < h → checkAll table aux challenges ≢ zeroAnswer

@@ -1,2 +1,4 @@
+pub mod Rows
+pub mod Denominators
 pub mod Shapes
 pub mod Tens

@@ -8,8 +8,8 @@ use lib.Dec.{ltb, leb}
 use lib.ListN.{length, getD}
 use borrow.Author.Tests.{ltb-true, ltb-false, le-leb, lt-leb}
 use Rattle.field.specs.Elements.{p}
-use Rattle.air.specs.Columns.{allReduced}
-use Rattle.air.proofs.Rows.{reduced-word}
+use Rattle.table.specs.Columns.{allReduced}
+use Rattle.table.proofs.Rows.{reduced-word}
 
 -- at most is not above
 pub at-most : (a b : ℕ) → leb a b ≡ not (ltb b a)

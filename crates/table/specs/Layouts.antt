@@ -1,7 +1,7 @@
 -- The rows and challenges that the code holds, as those of the definitions.
 use Rattle.xfield.specs.Extension.{Ext}
-use Rattle.air.specs.Columns.{Row}
-use Rattle.air.specs.Challenges.{Challenges}
+use Rattle.table.specs.Columns.{Row}
+use Rattle.table.specs.Challenges.{Challenges}
 use Rattle.xfield.specs.XFieldElements.{extOf}
 use Rattle.table.specs.declared.MainRow.{MainRow}
 use Rattle.table.specs.declared.AuxRow.{AuxRow}

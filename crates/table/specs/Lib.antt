@@ -1,2 +1,5 @@
+pub mod Columns
+pub mod Challenges
 pub mod Layouts
+pub mod RowWords
 pub mod Tens

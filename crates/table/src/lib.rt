@@ -3,10 +3,12 @@ ghost use mathlib.Core.Path.{_≡_};
 ghost use mathlib.Core.Bool.{true, _&&_};
 ghost use Prim.Native.Nat.{_+_, _*_, _≤_};
 ghost use lib.ListN.{length};
+ghost use lib.Seq.{sets};
 ghost use Rattle.xfield.specs.XFieldElements.{extOf};
-ghost use Rattle.air.specs.Columns.{mainWidth, auxWidth, rowAt, elementAt, auxAt, tableShape, auxShape, allReduced};
-ghost use Rattle.air.specs.Challenges.{challengeWords, challengesOf, challengesShape, denominator};
+ghost use Rattle.table.specs.Columns.{mainWidth, auxWidth, rowAt, elementAt, auxAt, tableShape, auxShape, allReduced};
+ghost use Rattle.table.specs.Challenges.{challengeWords, challengesOf, challengesShape, denominator};
 ghost use Rattle.table.specs.Layouts.{rowOf, sumOf, challengesIn};
+ghost use Rattle.table.specs.RowWords.{rowWords};
 ghost use Rattle.table.specs.Tens.{TenBelow};
 use field::BFieldElement;
 use words::MAX_ROWS;
@@ -115,14 +117,46 @@ impl MainRow {
             lookup_multiplicity: BFieldElement(table[k + 9]),
         }
     }
+
+    // The row's words, in the order of the columns.
+    pub fn words(self) -> [u64; MainRow::WIDTH]
+        ensures { λ r. ⌜ r ≡ rowWords (rowOf self) ⌝ }
+    {
+        [
+            self.copy_flag.0,
+            self.bits.0,
+            self.bits_minus_33_inv.0,
+            self.ci.0,
+            self.lhs.0,
+            self.lhs_inv.0,
+            self.rhs.0,
+            self.rhs_inv.0,
+            self.result.0,
+            self.lookup_multiplicity.0,
+        ]
+    }
+
+    // Stores the row as row i of a table's words.
+    pub fn put(self, table: &mut [u64], i: usize)
+        requires { ⌜ mainWidth * i + mainWidth ≤ length (now table) ⌝ }
+        ensures { λ _. ⌜ now (table .exit) ≡ sets (now (table .entry)) (mainWidth * i) (rowWords (rowOf self)) ⌝ }
+    {
+        let words = self.words();
+        let k = Self::WIDTH * i;
+        let mut column = 0;
+        while column < Self::WIDTH {
+            table[k + column] = words[column];
+            column += 1;
+        }
+    }
 }
 
-// Element i of words that hold extension elements, three words each.
+// Element i of words that hold extension elements.
 fn element_at(words: &[u64], i: usize) -> XFieldElement
     requires { ⌜ 3 * i + 3 ≤ length (now words) ⌝ }
     ensures { λ r. ⌜ extOf r ≡ elementAt (now (words .entry)) i ⌝ }
 {
-    let k = 3 * i;
+    let k = XFieldElement::WIDTH * i;
     XFieldElement(
         BFieldElement(words[k]),
         BFieldElement(words[k + 1]),
@@ -130,15 +164,15 @@ fn element_at(words: &[u64], i: usize) -> XFieldElement
     )
 }
 
-// A row of the aux table: the sum so far, in one column of three words.
+// A row of the aux table: the sum so far, in one column of an extension element.
 pub struct AuxRow {
     pub lookup_server_log_derivative: XFieldElement,
 }
 
 impl AuxRow {
-    pub const WIDTH: usize = 3;
+    pub const WIDTH: usize = XFieldElement::WIDTH;
 
-    // Three words a row of the table, which has not too many.
+    // As many rows as the table has.
     fn has_shape(table: &[u64], aux: &[u64]) -> bool
         ensures { λ r. ⌜ r ≡ auxShape (now (table .entry)) (now (aux .entry)) ⌝ }
     {
@@ -156,7 +190,7 @@ impl AuxRow {
     }
 }
 
-// The challenges of the U32 table.
+// The challenges of the U32 table: five extension elements.
 pub struct Challenges {
     pub u32_indeterminate: XFieldElement,
     pub u32_lhs_weight: XFieldElement,
@@ -166,7 +200,7 @@ pub struct Challenges {
 }
 
 impl Challenges {
-    pub const WIDTH: usize = 15;
+    pub const WIDTH: usize = 5 * XFieldElement::WIDTH;
 
     fn has_shape(words: &[u64]) -> bool
         ensures { λ r. ⌜ r ≡ challengesShape (now (words .entry)) ⌝ }

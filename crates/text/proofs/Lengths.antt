@@ -5,6 +5,7 @@ use mathlib.Core.List.{List, [], _∷_, map}
 use native.Mathlib.Omega.{arith}
 use lib.ListN.{length, length-append}
 use Rattle.text.specs.Lines.{decimal, lineRest, line, headLine, rowLine, sumLine, verdictLine, refusedLine}
+use Rattle.text.specs.Lines.{fieldLine, malformedLine, tooManyLine}
 use Rattle.text.proofs.Decimal.{length-decimal}
 
 rest-bound : (ws : List ℕ) → length (lineRest (map decimal ws)) ≤ 21 * length ws + 1
@@ -39,3 +40,18 @@ verdict-bound (v ∷ vs) = omega (arith, rest-bound (v ∷ vs))
 pub refused-bound : (number : ℕ) → length (refusedLine number) ≤ 29
 unfolding refusedLine line
 refused-bound number = omega (arith, rest-bound (number ∷ []))
+
+pub field-length : (field : List ℕ) → length (fieldLine field) ≡ length field + 1
+unfolding fieldLine line lineRest
+field-length field = length-append field (10 ∷ [])
+
+pub malformed-bound : (number : ℕ) → length (malformedLine number) ≤ 36
+unfolding malformedLine line lineRest
+malformed-bound number = simp length-append (omega (arith, length-decimal number))
+
+pub too-many-length : (rows most : ℕ) → length (tooManyLine rows most) ≡ 26 + length (decimal rows) + length (decimal most)
+unfolding tooManyLine line lineRest
+too-many-length rows most = simp length-append (omega arith)
+
+pub too-many-bound : (rows most : ℕ) → length (tooManyLine rows most) ≤ 66
+too-many-bound rows most = omega (arith, too-many-length rows most, length-decimal rows, length-decimal most)

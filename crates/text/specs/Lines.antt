@@ -51,3 +51,17 @@ verdictLine (group ∷ values) = line (ascii "nonzero" ∷ map decimal (group �
 -- "A refusal prints `refused` and the number alone."
 unfoldable pub refusedLine : ℕ → List ℕ
 refusedLine number = line (ascii "refused" ∷ decimal number ∷ [])
+
+-- ---- what `u32check` prints besides
+-- the line of one field alone, as a constraint's name
+unfoldable pub fieldLine : List ℕ → List ℕ
+fieldLine field = line (field ∷ [])
+
+-- a text that cannot be read, and the line of its first fault, as `malformed line 3`
+unfoldable pub malformedLine : ℕ → List ℕ
+malformedLine number = line (ascii "malformed" ∷ ascii "line" ∷ decimal number ∷ [])
+
+-- a number of rows above the most that is taken, as `too many rows: 16385, at most 16384`
+unfoldable pub tooManyLine : (rows most : ℕ) → List ℕ
+tooManyLine rows most =
+    line (ascii "too" ∷ ascii "many" ∷ ascii "rows:" ∷ (decimal rows ++ ascii ",") ∷ ascii "at" ∷ ascii "most" ∷ decimal most ∷ [])

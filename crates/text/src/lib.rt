@@ -4,6 +4,7 @@ ghost use Prim.Native.Nat.{_+_, _≤_, _<_};
 ghost use mathlib.Core.List.{[], _∷_, _++_, map};
 ghost use lib.ListN.{length};
 ghost use Rattle.text.specs.Lines.{decimal, lineRest, headLine, rowLine, sumLine, verdictLine, refusedLine};
+ghost use Rattle.text.specs.Lines.{fieldLine, malformedLine, tooManyLine};
 ghost use Rattle.text.specs.Put.{Put};
 
 // Puts these bytes.
@@ -116,4 +117,32 @@ pub fn put_refused(out: &mut [u8], at: usize, number: u64) -> usize
 {
     let next = put_bytes(out, at, b"refused");
     put_rest(out, next, &[number])
+}
+
+// Puts the line of one field alone.
+pub fn put_field(out: &mut [u8], at: usize, field: &[u8]) -> usize
+    requires { ⌜ at + length (fieldLine (now field)) ≤ length (now out) ⌝ }
+    ensures { λ r. ⌜ Put (now (out .entry)) at (fieldLine (now (field .entry))) (now (out .exit)) r ⌝ }
+{
+    let next = put_bytes(out, at, field);
+    put_rest(out, next, &[])
+}
+
+// Puts the line of a text that cannot be read: the number of the line with its first fault.
+pub fn put_malformed(out: &mut [u8], at: usize, number: u64) -> usize
+    requires { ⌜ at + length (malformedLine number) ≤ length (now out) ⌝ }
+    ensures { λ r. ⌜ Put (now (out .entry)) at (malformedLine number) (now (out .exit)) r ⌝ }
+{
+    let next = put_bytes(out, at, b"malformed line");
+    put_rest(out, next, &[number])
+}
+
+// Puts the line of a number of rows above the most that is taken.
+pub fn put_too_many(out: &mut [u8], at: usize, rows: u64, most: u64) -> usize
+    requires { ⌜ at + length (tooManyLine rows most) ≤ length (now out) ⌝ }
+    ensures { λ r. ⌜ Put (now (out .entry)) at (tooManyLine rows most) (now (out .exit)) r ⌝ }
+{
+    let next = put_labelled(out, at, b"too many rows: ", rows);
+    let after_rows = put_bytes(out, next, b", at most");
+    put_rest(out, after_rows, &[most])
 }

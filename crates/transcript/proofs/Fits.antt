@@ -8,25 +8,28 @@ use native.Mathlib.Omega.{arith}
 use borrow.Author.Tests.{ltb-false}
 use lib.Dec.{eqb, ltb}
 use lib.ListN.{length, drop, length-append}
-use Rattle.words.specs.Limits.{maxInput, maxPrintedRows}
 use Rattle.words.specs.Answers.{Answer}
+use Rattle.words.specs.Outcomes.{outcome}
 use Rattle.words.specs.declared.Judgement.{Judgement}
 use Rattle.words.specs.declared.Judgement.the-variants.{Fine, Declined}
 use Rattle.xfield.specs.Extension.{Ext, isZeroX}
 use Rattle.list.specs.Lists.{U32List, used}
 use Rattle.list.specs.Heights.{listHeight}
-use Rattle.list_record.specs.Heights.{paddedHeight}
-use Rattle.air.specs.Columns.{Row, rowAt}
-use Rattle.air.specs.Check.{nonzero, firstIn, firstInRows, firstNonzero, judgeCheck, checkedAs, checkAll}
-use Rattle.fill_sections.specs.Sections.{rowWords}
+use Rattle.list_record.specs.Plan.{paddedHeight}
+use Rattle.table.specs.Columns.{Row, rowAt, rowCount}
+use Rattle.air.specs.Check.{nonzero, firstIn, firstInRows, firstNonzero, checkReason, checkedAs, checkAll}
+use Rattle.table.specs.RowWords.{rowWords}
+use Rattle.sums.specs.RunningSum.{elementWords, sumWords}
+use Rattle.sums.specs.LookupSum.{summandAt, lookupSum}
 use Rattle.fill.specs.Filling.{fillAll}
 use Rattle.fill.specs.Padding.{padAll}
-use Rattle.fill.specs.Extending.{extendReason, extendedAs, extendAll}
+use Rattle.fill.specs.Extending.{extendReason, extendAll}
 use Rattle.text.specs.Lines.{rowLine, verdictLine, refusedLine}
 use Rattle.text.specs.Put.{Put}
 use Rattle.text.proofs.Lengths.{head-bound, row-bound, sum-bound, verdict-bound, refused-bound}
 use Rattle.list_stored.specs.Stored.{readAll}
-use Rattle.transcript.specs.Transcript.{challengeBytes, challengesIn, unusedPlaces, unlessRefused, rowLines, openingText, resultText}
+use Rattle.transcript.specs.Transcript.{maxInput, maxPrintedRows, challengeBytes, inputChallenges, unusedPlaces, unlessRefused}
+use Rattle.transcript.specs.Transcript.{rowLines, openingText, resultText}
 use Rattle.transcript.specs.Transcript.{checkedText, extendedText, paddedText, callsText, heightText, listText, readText}
 use Rattle.transcript.specs.Transcript.{transcriptOf, maxText}
 
@@ -35,7 +38,9 @@ use Rattle.transcript.specs.Transcript.{transcriptOf, maxText}
 extension-values : (table aux challenges : List ℕ) → length (extendAll table aux challenges .answer .values) ≤ 3
 unfolding extendAll
 extension-values table aux challenges = go (extendReason table aux challenges) where
-  go : (j : Judgement) → length (extendedAs j table aux challenges .answer .values) ≤ 3
+  go : (j : Judgement)
+      → length (outcome j (elementWords (lookupSum table challenges)) aux (sumWords (summandAt table challenges) (rowCount table)) .answer .values)
+      ≤ 3
   go Fine = omega arith
   go (Declined reason) = omega arith
 
@@ -59,7 +64,7 @@ rows-values constraints group row (suc left) next h =
 
 check-values : (table aux challenges : List ℕ) → length (checkAll table aux challenges .values) ≤ 6
 unfolding checkAll firstNonzero
-check-values table aux challenges = go (judgeCheck table aux challenges) where
+check-values table aux challenges = go (checkReason table aux challenges) where
   go : (j : Judgement) → length (checkedAs j (firstNonzero table aux challenges) .values) ≤ 6
   go Fine =
       rows-values _ 0 0 1 _ (rows-values _ 1 0 _ _ (rows-values _ 2 0 _ _ (rows-values _ 3 _ 1 _ (omega arith))))
@@ -131,17 +136,17 @@ module _ (n height padded : ℕ) (few : padded ≤ maxPrintedRows) where
   unfolding extendedText
   extended-fits table aux challenges =
       let extension = extendAll table aux challenges in
-      unless-fits _ _ (checked-fits table (extension .aux) challenges (extension .answer .values) (extension-values table aux challenges))
+      unless-fits _ _ (checked-fits table (extension .left) challenges (extension .answer .values) (extension-values table aux challenges))
 
   padded-fits : (table aux challenges : List ℕ) → length (paddedText n height padded table aux challenges) ≤ maxText
   unfolding paddedText
-  padded-fits table aux challenges = unless-fits _ _ (extended-fits (padAll table height .table) aux challenges)
+  padded-fits table aux challenges = unless-fits _ _ (extended-fits (padAll table height .left) aux challenges)
 
 calls-fit : (l : U32List) (challenges : List ℕ) (height padded : ℕ) (table aux : List ℕ)
     → padded ≤ maxPrintedRows → length (callsText l challenges height padded table aux) ≤ maxText
 unfolding callsText
 calls-fit l challenges height padded table aux few =
-    unless-fits _ _ (padded-fits (used l) height padded few (fillAll l table .table) aux challenges)
+    unless-fits _ _ (padded-fits (used l) height padded few (fillAll l table .left) aux challenges)
 
 -- one of two texts
 cond-fits : (t : Bool) (a b : List ℕ) → length a ≤ maxText → (t ≡ false → length b ≤ maxText) → length (cond t a b) ≤ maxText
@@ -162,11 +167,11 @@ list-fits l challenges = unless-fits _ _ (height-fits l challenges (listHeight l
 
 read-fits : (bytes challenges : List ℕ) → length (readText bytes challenges) ≤ maxText
 unfolding readText
-read-fits bytes challenges = unless-fits _ _ (list-fits (readAll unusedPlaces bytes .list) challenges)
+read-fits bytes challenges = unless-fits _ _ (list-fits (readAll unusedPlaces bytes .left) challenges)
 
 pub transcript-fits : (input : List ℕ) → length (transcriptOf input) ≤ maxText
 unfolding transcriptOf
 transcript-fits input =
     cond-fits (ltb (length input) challengeBytes) _ _ (refused-fits _)
     (λ _. cond-fits (ltb maxInput (length input)) _ _ (refused-fits _)
-    (λ _. read-fits (drop challengeBytes input) (challengesIn input)))
+    (λ _. read-fits (drop challengeBytes input) (inputChallenges input)))

@@ -6,8 +6,8 @@ use native.Mathlib.Nat.{add-zero, add-suc}
 use native.Mathlib.Omega.{arith}
 use lib.ListN.{length, getD, take, drop}
 use lib.Seq.{drop-cons}
-use Rattle.air.specs.Columns.{mainWidth, rowAt}
-use Rattle.fill_sections.specs.Sections.{rowWords}
+use Rattle.table.specs.Columns.{mainWidth, rowAt}
+use Rattle.table.specs.RowWords.{rowWords}
 
 -- the k words from place j + o on
 abbrev wordsAt : List ℕ → ℕ → ℕ → ℕ → List ℕ
@@ -21,12 +21,12 @@ part-words t j o (suc k) h =
     rw (drop-cons t (j + o) 0 (omega arith), e)
     (ap (λ (l : List ℕ). getD t (j + o) 0 ∷ l) (part-words t j (suc o) k (omega arith)))
 
-pub row-words : (table : List ℕ) (i : ℕ) → mainWidth * i + 10 ≤ length table
-    → take (mainWidth * i + 10 - mainWidth * i) (drop (mainWidth * i) table) ≡ rowWords (rowAt table i)
+pub row-words : (table : List ℕ) (i : ℕ) → mainWidth * i + mainWidth ≤ length table
+    → take (mainWidth * i + mainWidth - mainWidth * i) (drop (mainWidth * i) table) ≡ rowWords (rowAt table i)
 unfolding rowAt
 row-words table i h =
-    let e : mainWidth * i + 10 - mainWidth * i ≡ 10 = omega arith in
+    let e : mainWidth * i + mainWidth - mainWidth * i ≡ mainWidth = omega arith in
     rw e
-    (ap (λ (j : ℕ). take 10 (drop j table)) (sym (add-zero (mainWidth * i)))
-    ∙ part-words table (mainWidth * i) 0 10 (omega arith)
+    (ap (λ (j : ℕ). take mainWidth (drop j table)) (sym (add-zero (mainWidth * i)))
+    ∙ part-words table (mainWidth * i) 0 mainWidth (omega arith)
     ∙ ap (λ (j : ℕ). getD table j 0 ∷ wordsAt table (mainWidth * i) 1 9) (add-zero (mainWidth * i)))

@@ -5,52 +5,52 @@ use mathlib.Core.Path.{_≡_, refl, sym, ap, _∙_}
 use mathlib.Core.Bool.{Bool, true, false}
 use mathlib.Core.List.{List, [], _∷_, map, append-nil}
 use native.Mathlib.Omega.{arith}
-use borrow.Author.Tests.{ltb-false, lt-ltb, le-ltb}
+use borrow.Author.Tests.{ltb-false, lt-ltb, le-ltb, ne-eqb}
 use lib.Dec.{eqb, ltb}
 use lib.ListN.{length, getD, take, drop, length-replicate, length-drop}
 use lib.Seq.{sets, length-sets, take-all}
-use Rattle.words.specs.Limits.{maxInput, maxPrintedRows}
 use Rattle.words.specs.LittleEndian.{leAt}
 use Rattle.words.specs.Answers.{Answer, done, declined}
-use Rattle.words.specs.Refusals.{refusalNumber, declineIf}
+use Rattle.words.specs.Outcomes.{Outcome, Leaves, answered}
+use Rattle.words.specs.Refusals.{refusalNumber}
 use Rattle.words.specs.declared.Refusal.{Refusal}
-use Rattle.words.specs.declared.Refusal.the-variants.{Shape, Stranger, Wide, BareLog, CountFull, ListFull}
-use Rattle.words.specs.declared.Refusal.the-variants.{Short, Unreduced, Flat, Torn, Repeat, Tally}
+use Rattle.words.specs.declared.Refusal.the-variants.{Shape, Short, Torn}
 use Rattle.words.specs.declared.Judgement.{Judgement}
 use Rattle.words.specs.declared.Judgement.the-variants.{Fine, Declined}
+use Rattle.words.specs.Places.{places}
+use Rattle.words.proofs.Answers.{number-positive}
+use Rattle.words.proofs.Judgements.{decline-true, decline-false, decline-fine}
+use Rattle.words.proofs.Outcomes.{outcome-fine, leaves-done, leaves-declined, done-fine}
 use Rattle.words.proofs.Sets.{sets-front}
+use Rattle.words.proofs.Places.{length-map}
 use Rattle.xfield.specs.declared.XFieldElement.{XFieldElement}
 use Rattle.xfield.specs.XFieldElements.{extOf}
 use Rattle.list.specs.Lists.{U32List, used, judgeList}
 use Rattle.list_record.specs.declared.Planned.{Planned}
 use Rattle.list_record.specs.declared.Planned.the-variants.{Heights, Refused as PlanRefused}
 use Rattle.list.specs.Heights.{listHeight}
-use Rattle.list_record.specs.Heights.{paddedHeight, plannedAs, planAll, plannedAnswer}
-use Rattle.list_record.specs.Recording.{After}
-use Rattle.air.specs.Columns.{mainWidth, auxWidth}
-use Rattle.air.specs.Challenges.{challengeWords}
+use Rattle.list_record.specs.Plan.{paddedHeight, planAll, plannedAnswer}
+use Rattle.table.specs.Columns.{mainWidth, auxWidth}
+use Rattle.table.specs.Challenges.{challengeWords}
 use Rattle.air.specs.Check.{nonzero, checkAll}
 use Rattle.check_table.specs.declared.Verdict.{Verdict}
 use Rattle.check_table.specs.declared.Verdict.the-variants.{Zero, Nonzero, Refused as VerdictRefused}
 use Rattle.check_table.specs.Verdicts.{verdictAnswer}
-use Rattle.extend.specs.declared.Extended.the-variants.{Sum, Refused as ExtendedRefused}
-use Rattle.extend.specs.Extensions.{IsExtended}
-use Rattle.fill.specs.declared.Filled.the-variants.{Rows, Refused as FilledRefused}
-use Rattle.fill.specs.declared.Padded.the-variants.{Done, Refused as PaddedRefused}
-use Rattle.fill.specs.Filling.{TableAfter, IsFilled, fillAll}
-use Rattle.fill.specs.Padding.{IsPadded, padAll}
-use Rattle.fill.specs.Extending.{AuxAfter, elementWords, extendAll}
+use Rattle.fill.specs.Filling.{fillAll}
+use Rattle.fill.specs.Padding.{padAll}
+use Rattle.sums.specs.RunningSum.{elementWords}
+use Rattle.fill.specs.Extending.{extendAll}
 use Rattle.list_stored.specs.declared.Read.the-variants.{Entries, Refused as ReadRefused}
-use Rattle.list.specs.Places.{places}
-use Rattle.list_stored.specs.Stored.{readAll, IsRead}
-use Rattle.list_bytes.proofs.Replaced.{length-map}
+use Rattle.list_stored.specs.Stored.{readAll, readAnswer}
 use Rattle.text.specs.Lines.{verdictLine, refusedLine}
 use Rattle.text.specs.Put.{Put}
 use Rattle.text.proofs.Putting.{put-then}
+use Rattle.transcript.specs.declared.Transcribed.{Transcribed}
 use Rattle.transcript.specs.declared.Transcribed.the-variants.{Length, Refused}
-use Rattle.transcript.specs.Transcript.{challengeBytes, challengesIn, zeros, unusedPlaces, unlessRefused, openingText, resultText}
+use Rattle.transcript.specs.Transcript.{maxInput, maxPrintedRows, challengeBytes, inputChallenges, zeros, unusedPlaces, unlessRefused}
+use Rattle.transcript.specs.Transcript.{openingText, resultText, verdictText}
 use Rattle.transcript.specs.Transcript.{checkedText, extendedText, paddedText, callsText, heightText, listText, readText}
-use Rattle.transcript.specs.Transcript.{transcriptOf, maxText, transcribeReason, transcribedAs, transcribeAll, IsTranscribed}
+use Rattle.transcript.specs.Transcript.{transcriptOf, maxText, transcribeReason, transcribeAll, transcribedAnswer, Fits}
 use Rattle.transcript.proofs.Fits.{transcript-fits}
 
 -- ---- a call that is refused, and one that is made
@@ -60,18 +60,7 @@ unfolding unlessRefused
 text-made text vs e = rw e
 
 pub reason-not-zero : (reason : Refusal) → eqb (refusalNumber reason) 0 ≡ false
-reason-not-zero Shape = refl
-reason-not-zero Stranger = refl
-reason-not-zero Wide = refl
-reason-not-zero BareLog = refl
-reason-not-zero CountFull = refl
-reason-not-zero ListFull = refl
-reason-not-zero Short = refl
-reason-not-zero Unreduced = refl
-reason-not-zero Flat = refl
-reason-not-zero Torn = refl
-reason-not-zero Repeat = refl
-reason-not-zero Tally = refl
+reason-not-zero reason = ne-eqb (refusalNumber reason) 0 (λ e. omega (arith, number-positive reason))
 
 module _ {d d1 : List ℕ} {r : ℕ} where
   refused : {due : Answer} (text : List ℕ) (reason : Refusal) → declined reason ≡ due
@@ -87,7 +76,7 @@ module _ {d d1 : List ℕ} {r : ℕ} where
 
 -- what is put after the verdict v
 abbrev due : (n height padded : ℕ) (table sum : List ℕ) (v : Verdict) → List ℕ
-due n height padded table sum v = unlessRefused (verdictAnswer v) (resultText n height padded table sum (verdictAnswer v .values))
+due n height padded table sum v = verdictText n height padded table sum (verdictAnswer v)
 
 module _ {d d1 : List ℕ} {r : ℕ} (n height padded : ℕ) (table sum : List ℕ) (v : Verdict) where
   pub result-refused : (reason : Refusal) → v ≡ VerdictRefused reason → Put d 0 (refusedLine (refusalNumber reason)) d1 r
@@ -108,41 +97,41 @@ module _ {d d1 : List ℕ} {r : ℕ} (n height padded : ℕ) (table sum : List �
 -- ---- the other calls
 
 module _ {d d1 : List ℕ} {r : ℕ} (n height padded : ℕ) (table aux challenges : List ℕ) where
-  pub extension-refused : (reason : Refusal) (after : List ℕ) → IsExtended (extendAll table aux challenges) (ExtendedRefused reason) after
+  pub extension-refused : (reason : Refusal) (after : List ℕ) → Leaves (extendAll table aux challenges) (declined reason) after
       → Put d 0 (refusedLine (refusalNumber reason)) d1 r → Put d 0 (extendedText n height padded table aux challenges) d1 r
   unfolding extendedText
   extension-refused reason after e p = refused _ reason (e .answer) p
 
   pub extension-made : (sum : XFieldElement) (after : List ℕ) (v : Verdict)
-      → IsExtended (extendAll table aux challenges) (Sum sum) after → verdictAnswer v ≡ checkAll table after challenges
+      → Leaves (extendAll table aux challenges) (done (elementWords (extOf sum))) after → verdictAnswer v ≡ checkAll table after challenges
       → Put d 0 (due n height padded table (elementWords (extOf sum)) v) d1 r → Put d 0 (extendedText n height padded table aux challenges) d1 r
   unfolding extendedText checkedText
   extension-made sum after v e k p =
       let values : elementWords (extOf sum) ≡ extendAll table aux challenges .answer .values = ap (λ (a : Answer). a .values) (e .answer) in
-      made _ (elementWords (extOf sum)) (e .answer) (rw (← values, ← e .aux, ← k) p)
+      made _ (elementWords (extOf sum)) (e .answer) (rw (← values, ← e .left, ← k) p)
 
-  pub padding-refused : (reason : Refusal) (after : List ℕ) → IsPadded (padAll table height) (PaddedRefused reason) after
+  pub padding-refused : (reason : Refusal) (after : List ℕ) → Leaves (padAll table height) (declined reason) after
       → Put d 0 (refusedLine (refusalNumber reason)) d1 r → Put d 0 (paddedText n height padded table aux challenges) d1 r
   unfolding paddedText
   padding-refused reason after e p = refused _ reason (e .answer) p
 
-  pub padding-made : (after : List ℕ) → IsPadded (padAll table height) Done after
+  pub padding-made : (after : List ℕ) → Leaves (padAll table height) (done []) after
       → Put d 0 (extendedText n height padded after aux challenges) d1 r → Put d 0 (paddedText n height padded table aux challenges) d1 r
   unfolding paddedText
-  padding-made after e p = made _ [] (e .answer) (rw (← e .table) p)
+  padding-made after e p = made _ [] (e .answer) (rw (← e .left) p)
 
 module _ {d d1 : List ℕ} {r : ℕ} (l : U32List) (challenges : List ℕ) where
   module _ (height padded : ℕ) (table aux : List ℕ) where
-    pub filling-refused : (reason : Refusal) (after : List ℕ) → IsFilled (fillAll l table) (FilledRefused reason) after
+    pub filling-refused : (reason : Refusal) (after : List ℕ) → Leaves (fillAll l table) (declined reason) after
         → Put d 0 (refusedLine (refusalNumber reason)) d1 r → Put d 0 (callsText l challenges height padded table aux) d1 r
     unfolding callsText
     filling-refused reason after e p = refused _ reason (e .answer) p
 
-    pub filling-made : (rows : ℕ) (after : List ℕ) → IsFilled (fillAll l table) (Rows rows) after
+    pub filling-made : (rows : ℕ) (after : List ℕ) → Leaves (fillAll l table) (done (rows ∷ [])) after
         → Put d 0 (paddedText (used l) height padded after aux challenges) d1 r
         → Put d 0 (callsText l challenges height padded table aux) d1 r
     unfolding callsText
-    filling-made rows after e p = made _ (rows ∷ []) (e .answer) (rw (← e .table) p)
+    filling-made rows after e p = made _ (rows ∷ []) (e .answer) (rw (← e .left) p)
 
   -- a padded height over 512, and one that is not
   pub height-refused : (height padded : ℕ) → maxPrintedRows < padded
@@ -165,7 +154,7 @@ module _ {d d1 : List ℕ} {r : ℕ} (l : U32List) (challenges : List ℕ) where
       → Put d 0 (heightText l challenges height padded) d1 r → Put d 0 (listText l challenges) d1 r
   unfolding listText planAll
   plan-made plan height padded e k p = made _ (height ∷ padded ∷ []) (rw k at e) (go (judgeList l) (rw k at e)) where
-    go : (j : Judgement) → done (height ∷ padded ∷ []) ≡ plannedAs j (listHeight l)
+    go : (j : Judgement) → done (height ∷ padded ∷ []) ≡ answered j (listHeight l ∷ paddedHeight (listHeight l) ∷ [])
         → Put d 0 (heightText l challenges (listHeight l) (paddedHeight (listHeight l))) d1 r
     go Fine k =
         let h : height ≡ listHeight l = ap (λ (a : Answer). getD (a .values) 0 0) k in
@@ -174,67 +163,63 @@ module _ {d d1 : List ℕ} {r : ℕ} (l : U32List) (challenges : List ℕ) where
     go (Declined reason) k = absurd (let v = ap (λ (a : Answer). length (a .values)) k in omega arith)
 
 module _ {d d1 : List ℕ} {r : ℕ} (bytes challenges : List ℕ) (after : U32List) where
-  pub reading-refused : (reason : Refusal) → IsRead (readAll unusedPlaces bytes) (ReadRefused reason) after
+  pub reading-refused : (reason : Refusal) → Leaves (readAll unusedPlaces bytes) (readAnswer (ReadRefused reason)) after
       → Put d 0 (refusedLine (refusalNumber reason)) d1 r → Put d 0 (readText bytes challenges) d1 r
   unfolding readText
   reading-refused reason e p = refused _ reason (e .answer) p
 
-  pub reading-made : (n : ℕ) → IsRead (readAll unusedPlaces bytes) (Entries n) after
+  pub reading-made : (n : ℕ) → Leaves (readAll unusedPlaces bytes) (readAnswer (Entries n)) after
       → Put d 0 (listText after challenges) d1 r → Put d 0 (readText bytes challenges) d1 r
   unfolding readText
-  reading-made n e p = made _ (n ∷ []) (e .answer) (rw (← e .list) p)
+  reading-made n e p = made _ (n ∷ []) (e .answer) (rw (← e .left) p)
 
 -- ---- the whole
 
+-- what `transcript` ensures
+abbrev pub Transcribes : (input out : List ℕ) → Transcribed → (after : List ℕ) → Type 0
+Transcribes input out r after = Leaves (transcribeAll input out) (transcribedAnswer r) after × Fits input
+
 module _ (input out : List ℕ) where
-  pub short-out : length out < maxText → IsTranscribed input out (Refused Short) out
+  pub short-out : length out < maxText → Transcribes input out (Refused Short) out
   unfolding transcribeAll transcribeReason
-  short-out h = record {
-    answer = rw (lt-ltb (length out) maxText h);
-    bytes = rw (lt-ltb (length out) maxText h);
-    fits = transcript-fits input;
-  }
+  short-out h = (leaves-declined _ _ _ (decline-true Short (lt-ltb (length out) maxText h)), transcript-fits input)
 
   module _ {after : List ℕ} {r : ℕ} (room : maxText ≤ length out) where
-    pub text-put : Put out 0 (transcriptOf input) after r → IsTranscribed input out (Length r) after
+    pub text-put : Put out 0 (transcriptOf input) after r → Transcribes input out (Length r) after
     unfolding transcribeAll transcribeReason
     text-put p =
-        let e : r ≡ length (transcriptOf input) = omega (arith, p .place) in
-        record {
-          answer = rw (le-ltb (length out) maxText room, e);
-          bytes = rw (le-ltb (length out) maxText room) (p .held);
-          fits = transcript-fits input;
-        }
+        let e : r ≡ length (transcriptOf input) = omega (arith, p .place) in (
+          leaves-done _ _ _ (decline-false Short (le-ltb (length out) maxText room)) (ap (λ (n : ℕ). done (n ∷ [])) e) (p .held),
+          transcript-fits input,
+        )
 
     pub short-input : length input < challengeBytes → Put out 0 (refusedLine (refusalNumber Shape)) after r
-        → IsTranscribed input out (Length r) after
+        → Transcribes input out (Length r) after
     unfolding transcriptOf
     short-input h p = text-put (rw (lt-ltb (length input) challengeBytes h) p)
 
     pub long-input : challengeBytes ≤ length input → maxInput < length input → Put out 0 (refusedLine (refusalNumber Torn)) after r
-        → IsTranscribed input out (Length r) after
+        → Transcribes input out (Length r) after
     unfolding transcriptOf
     long-input g h p = text-put (rw (le-ltb (length input) challengeBytes g, lt-ltb maxInput (length input) h) p)
 
-    pub stored-input : (challenges : List ℕ) → challengeBytes ≤ length input → length input ≤ maxInput → challenges ≡ challengesIn input
+    pub stored-input : (challenges : List ℕ) → challengeBytes ≤ length input → length input ≤ maxInput → challenges ≡ inputChallenges input
         → Put out 0 (readText (take (length input - challengeBytes) (drop challengeBytes input)) challenges) after r
-        → IsTranscribed input out (Length r) after
+        → Transcribes input out (Length r) after
     unfolding transcriptOf
     stored-input challenges g h e p =
         let rest = take-all (length input - challengeBytes) (drop challengeBytes input) (omega (arith, length-drop challengeBytes input)) in
         text-put (rw (le-ltb (length input) challengeBytes g, le-ltb maxInput (length input) h, ← e) (rw rest at p))
 
   -- an answer that is a length is within the bytes
-  pub text-within : (n : ℕ) (after : List ℕ) → IsTranscribed input out (Length n) after → n ≤ length after
+  pub text-within : (n : ℕ) (after : List ℕ) → Transcribes input out (Length n) after → n ≤ length after
   unfolding transcribeAll transcribeReason
-  text-within n after t = go (ltb (length out) maxText) refl (t .answer) (t .bytes) where
-    go : (b : Bool) → ltb (length out) maxText ≡ b → done (n ∷ []) ≡ transcribedAs (declineIf b Short) input out .answer
-        → after ≡ transcribedAs (declineIf b Short) input out .out → n ≤ length after
-    go true e a o = absurd (let v = ap (λ (x : Answer). length (x .values)) a in omega arith)
-    go false e a o =
-        let k : n ≡ length (transcriptOf input) = ap (λ (x : Answer). getD (x .values) 0 0) a in
-        let l : length after ≡ length out = ap length o ∙ length-sets out 0 (transcriptOf input) in
-        omega (arith, ltb-false (length out) maxText e, t .fits)
+  text-within n after (t, f) =
+      let fine = done-fine (transcribeReason out) (length (transcriptOf input) ∷ []) out (sets out 0 (transcriptOf input)) (sym (t .answer)) in
+      let k : length (transcriptOf input) ≡ n = ap (λ (values : List ℕ). getD values 0 0) (fine .1) in
+      let o : after ≡ sets out 0 (transcriptOf input) = t .left ∙ ap (λ (due : Outcome (List ℕ)). due .left) (outcome-fine _ _ _ (fine .0)) in
+      let l : length after ≡ length out = ap length o ∙ length-sets out 0 (transcriptOf input) in
+      omega (arith, ltb-false (length out) maxText (decline-fine (ltb (length out) maxText) Short (fine .0)), f)
 
 -- ---- buffers
 

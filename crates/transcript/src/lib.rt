@@ -2,36 +2,40 @@
 ghost use Prim.Native.Nat.{_+_, _*_, _≤_};
 ghost use mathlib.Core.Path.{_≡_};
 ghost use lib.ListN.{length};
-ghost use Rattle.words.specs.Limits.{maxPrintedRows};
+ghost use Rattle.words.specs.Outcomes.{Leaves};
 ghost use Rattle.words.specs.Refusals.{refusalNumber};
 ghost use Rattle.xfield.specs.XFieldElements.{extOf};
 ghost use Rattle.list.specs.Lists.{u32List};
-ghost use Rattle.fill.specs.Extending.{elementWords};
+ghost use Rattle.sums.specs.RunningSum.{elementWords};
+ghost use Rattle.table.specs.Columns.{mainWidth};
 ghost use Rattle.check_table.specs.Verdicts.{verdictAnswer};
 ghost use Rattle.text.specs.Lines.{refusedLine};
 ghost use Rattle.text.specs.Put.{Put};
-ghost use Rattle.transcript.specs.Transcript.{challengeBytes, challengesIn, unlessRefused, rowLines, resultText, openingText};
+ghost use Rattle.transcript.specs.Transcript.{maxPrintedRows, challengeBytes, inputChallenges, rowLines, openingText, verdictText};
 ghost use Rattle.transcript.specs.Transcript.{checkedText, extendedText, paddedText, callsText, heightText, listText, readText};
-ghost use Rattle.transcript.specs.Transcript.{maxText, IsTranscribed};
+ghost use Rattle.transcript.specs.Transcript.{maxText, transcribeAll, transcribedAnswer, Fits, Printable};
 use check_table::Verdict;
 use extend::Extended;
 use fill::Filled;
-use fill::Padded;
 use list_record::MAX_PLACES;
 use list_record::Planned;
 use list_record::Sizes;
 use list_stored::Read;
+use table::AuxRow;
+use table::Challenges;
+use table::MainRow;
+use words::Completed;
 use words::Refusal;
 use xfield::XFieldElement;
 
-// Input bytes before the stored list: fifteen words.
-const CHALLENGE_BYTES: usize = 120;
+// Input bytes before the stored list: the challenges' words.
+const CHALLENGE_BYTES: usize = 8 * Challenges::WIDTH;
 
-// Fifteen challenges and 2,048 stored entries: more bytes are refused.
+// The challenges and 2,048 stored entries: more bytes are refused.
 pub const MAX_INPUT: usize = 51328;
 
 // A higher padded height is not printed.
-const MAX_PRINTED_ROWS: u64 = 512;
+const MAX_PRINTED_ROWS: usize = 512;
 
 // No text is longer.
 pub const MAX_TEXT: usize = 107804;
@@ -44,14 +48,14 @@ pub enum Transcribed {
 
 // Puts the lines of the first n rows of a table.
 fn put_rows(out: &mut [u8], at: usize, table: &[u64], n: usize) -> usize
-    requires { ⌜ (n ≤ maxPrintedRows) × (10 * n ≤ length (now table)) × (at + 210 * n ≤ length (now out)) ⌝ }
+    requires { ⌜ (n ≤ maxPrintedRows) × (mainWidth * n ≤ length (now table)) × (at + 210 * n ≤ length (now out)) ⌝ }
     ensures { λ r. ⌜ Put (now (out .entry)) at (rowLines (now (table .entry)) n) (now (out .exit)) r ⌝ }
 {
     let mut next = at;
     let mut row: usize = 0;
     while row < n {
-        let from = 10 * row;
-        let to = from + 10;
+        let from = MainRow::WIDTH * row;
+        let to = from + MainRow::WIDTH;
         next = text::put_row(out, next, &table[from..to]);
         row += 1;
     }
@@ -75,7 +79,7 @@ fn put_opening(
     table: &[u64],
     sum: XFieldElement,
 ) -> usize
-    requires { ⌜ (maxText ≤ length (now out)) × (padded ≤ maxPrintedRows) × (10 * padded ≤ length (now table)) ⌝ }
+    requires { ⌜ Printable (now out) (now table) padded ⌝ }
     ensures { λ r. ⌜ Put (now (out .entry)) 0 (openingText n height padded (now (table .entry)) (elementWords (extOf sum))) (now (out .exit)) r ⌝ }
 {
     let after_head = text::put_head(out, 0, n as u64, height, padded as u64);
@@ -93,8 +97,8 @@ fn put_result(
     sum: XFieldElement,
     verdict: Verdict,
 ) -> usize
-    requires { ⌜ (maxText ≤ length (now out)) × (padded ≤ maxPrintedRows) × (10 * padded ≤ length (now table)) ⌝ }
-    ensures { λ r. ⌜ Put (now (out .entry)) 0 (unlessRefused (verdictAnswer verdict) (resultText n height padded (now (table .entry)) (elementWords (extOf sum)) (verdictAnswer verdict .values))) (now (out .exit)) r ⌝ }
+    requires { ⌜ Printable (now out) (now table) padded ⌝ }
+    ensures { λ r. ⌜ Put (now (out .entry)) 0 (verdictText n height padded (now (table .entry)) (elementWords (extOf sum)) (verdictAnswer verdict)) (now (out .exit)) r ⌝ }
 {
     match verdict {
         Verdict::Refused(reason) => put_reason(out, reason),
@@ -128,7 +132,7 @@ fn put_extended(
     aux: &mut [u64],
     challenges: &[u64],
 ) -> usize
-    requires { ⌜ (maxText ≤ length (now out)) × (padded ≤ maxPrintedRows) × (10 * padded ≤ length (now table)) ⌝ }
+    requires { ⌜ Printable (now out) (now table) padded ⌝ }
     ensures { λ r. ⌜ Put (now (out .entry)) 0 (extendedText n height padded (now (table .entry)) (now (aux .entry)) (now (challenges .entry))) (now (out .exit)) r ⌝ }
 {
     match extend::extend(table, aux, challenges) {
@@ -150,12 +154,12 @@ fn put_padded(
     aux: &mut [u64],
     challenges: &[u64],
 ) -> usize
-    requires { ⌜ (maxText ≤ length (now out)) × (padded ≤ maxPrintedRows) × (10 * padded ≤ length (now table)) ⌝ }
+    requires { ⌜ Printable (now out) (now table) padded ⌝ }
     ensures { λ r. ⌜ Put (now (out .entry)) 0 (paddedText n height padded (now (table .entry)) (now (aux .entry)) (now (challenges .entry))) (now (out .exit)) r ⌝ }
 {
     match fill::pad(table, height as usize) {
-        Padded::Refused(reason) => put_reason(out, reason),
-        Padded::Done => put_extended(out, n, height, padded, table, aux, challenges),
+        Completed::Refused(reason) => put_reason(out, reason),
+        Completed::Done => put_extended(out, n, height, padded, table, aux, challenges),
     }
 }
 
@@ -171,7 +175,7 @@ fn put_calls(
     table: &mut [u64],
     aux: &mut [u64],
 ) -> usize
-    requires { ⌜ (maxText ≤ length (now out)) × (padded ≤ maxPrintedRows) × (10 * padded ≤ length (now table)) ⌝ }
+    requires { ⌜ Printable (now out) (now table) padded ⌝ }
     ensures { λ r. ⌜ Put (now (out .entry)) 0 (callsText (u32List sizes (now (keys .entry)) (now (multiplicities .entry))) (now (challenges .entry)) height padded (now (table .entry)) (now (aux .entry))) (now (out .exit)) r ⌝ }
 {
     match fill::fill(sizes, keys, multiplicities, table) {
@@ -196,14 +200,14 @@ fn put_height(
     requires { ⌜ maxText ≤ length (now out) ⌝ }
     ensures { λ r. ⌜ Put (now (out .entry)) 0 (heightText (u32List sizes (now (keys .entry)) (now (multiplicities .entry))) (now (challenges .entry)) height padded) (now (out .exit)) r ⌝ }
 {
-    if MAX_PRINTED_ROWS < padded {
+    if (MAX_PRINTED_ROWS as u64) < padded {
         return put_reason(out, Refusal::Short);
     }
     let rows = padded as usize;
-    let words = 10 * rows;
-    let sums = 3 * rows;
-    let mut table = [0u64; 5120];
-    let mut aux = [0u64; 1536];
+    let words = MainRow::WIDTH * rows;
+    let sums = AuxRow::WIDTH * rows;
+    let mut table = [0u64; MainRow::WIDTH * MAX_PRINTED_ROWS];
+    let mut aux = [0u64; AuxRow::WIDTH * MAX_PRINTED_ROWS];
     put_calls(
         out,
         sizes,
@@ -241,8 +245,8 @@ fn put_stored(out: &mut [u8], bytes: &[u8], challenges: &[u64]) -> usize
     requires { ⌜ maxText ≤ length (now out) ⌝ }
     ensures { λ r. ⌜ Put (now (out .entry)) 0 (readText (now (bytes .entry)) (now (challenges .entry))) (now (out .exit)) r ⌝ }
 {
-    let mut keys = [0u64; 6144];
-    let mut multiplicities = [0u64; 2048];
+    let mut keys = [0u64; 3 * MAX_PLACES];
+    let mut multiplicities = [0u64; MAX_PLACES];
     let sizes = Sizes {
         capacity: MAX_PLACES,
         used: 0,
@@ -256,23 +260,25 @@ fn put_stored(out: &mut [u8], bytes: &[u8], challenges: &[u64]) -> usize
     }
 }
 
-// The fifteen words at the front of the input.
-fn challenges_in(input: &[u8]) -> [u64; 15]
+// The challenges at the front of the input.
+fn challenges_in(input: &[u8]) -> [u64; Challenges::WIDTH]
     requires { ⌜ challengeBytes ≤ length (now input) ⌝ }
-    ensures { λ r. ⌜ r ≡ challengesIn (now (input .entry)) ⌝ }
+    ensures { λ r. ⌜ r ≡ inputChallenges (now (input .entry)) ⌝ }
 {
-    let mut challenges = [0u64; 15];
+    let mut challenges = [0u64; Challenges::WIDTH];
     let mut i: usize = 0;
-    while i < 15 {
+    while i < Challenges::WIDTH {
         challenges[i] = words::word_at(input, 8 * i);
         i += 1;
     }
     challenges
 }
 
-// Puts the text for these input bytes at the front of `out`, and answers its length.
+// Puts the text for these input bytes at the front of `out`, and answers its length. It refuses an output of fewer than MAX_TEXT bytes; what
+// the calls refuse is said in the text.
 pub fn transcript(input: &[u8], out: &mut [u8]) -> Transcribed
-    ensures { λ r. ⌜ IsTranscribed (now (input .entry)) (now (out .entry)) r (now (out .exit)) ⌝ }
+    ensures due { λ r. ⌜ Leaves (transcribeAll (now (input .entry)) (now (out .entry))) (transcribedAnswer r) (now (out .exit)) ⌝ }
+    ensures fits { λ _. ⌜ Fits (now (input .entry)) ⌝ }
 {
     if out.len() < MAX_TEXT {
         return Transcribed::Refused(Refusal::Short);

@@ -3,16 +3,25 @@
 // looked at; on every refusal it is untouched, and so are always its words past those stated.
 ghost use mathlib.Core.Path.{_≡_};
 ghost use Rattle.isa.specs.Entries.{entry};
-ghost use Rattle.list_record.specs.Heights.{planAll};
+ghost use Rattle.list_record.specs.Plan.{planAll};
 ghost use Rattle.list_record.specs.Recording.{recordAll};
 ghost use Rattle.list_stored.specs.Stored.{readAll, writeAll};
 ghost use Rattle.c_answers.specs.Exports.{lentList, lentDue, Exported};
 ghost use Rattle.c_lists.specs.ListAnswers.{withUsed, compareAll};
-ghost use Rattle.air.specs.Check.{checkAll};
-ghost use Rattle.fill.specs.Filling.{fillAll};
 ghost use Rattle.fill.specs.Padding.{padAll};
-ghost use Rattle.fill.specs.Extending.{extendAll};
-ghost use Rattle.c_tables.specs.TableAnswers.{verdictDue, SaysZeroIff, SaysZeroSound, SaysZeroSums};
+ghost use Rattle.c_tables.specs.TableAnswers.{FillAnswers, FillLeaves, ExtendAnswers, ExtendLeaves};
+ghost use Rattle.c_tables.specs.TableAnswers.{CheckAnswers, SaysZeroIff, SaysZeroSound, SaysZeroSums};
+
+// The number of these signatures. It is raised whenever one of them changes: here, in the name below, in include/u32_table.h and in the Rust
+// crate. Both name the symbol, so a program does not link with a library of other signatures.
+const ABI: u64 = 1;
+
+#[no_mangle]
+pub extern "C" fn u32_table_abi_1() -> u64
+    ensures { λ r. ⌜ r ≡ 1 ⌝ }
+{
+    ABI
+}
 
 // Answers: the key's position, and the places used afterwards.
 #[no_mangle]
@@ -27,8 +36,8 @@ pub extern "C" fn u32_table_record(
     answers: &mut [u64],
 ) -> u64
     ensures answers { λ r. ⌜ Exported 2 (withUsed (recordAll (lentList capacity used (now (keys .entry)) (now (multiplicities .entry))) (entry opcode «left_operand» «right_operand»))) (now (answers .entry)) r (now (answers .exit)) ⌝ }
-    ensures keys { λ _. ⌜ now (keys .exit) ≡ lentDue 2 (now (answers .entry)) (now (keys .entry)) (recordAll (lentList capacity used (now (keys .entry)) (now (multiplicities .entry))) (entry opcode «left_operand» «right_operand») .list .keys) ⌝ }
-    ensures multiplicities { λ _. ⌜ now (multiplicities .exit) ≡ lentDue 2 (now (answers .entry)) (now (multiplicities .entry)) (recordAll (lentList capacity used (now (keys .entry)) (now (multiplicities .entry))) (entry opcode «left_operand» «right_operand») .list .multiplicities) ⌝ }
+    ensures keys { λ _. ⌜ now (keys .exit) ≡ lentDue 2 (now (answers .entry)) (now (keys .entry)) (recordAll (lentList capacity used (now (keys .entry)) (now (multiplicities .entry))) (entry opcode «left_operand» «right_operand») .left .keys) ⌝ }
+    ensures multiplicities { λ _. ⌜ now (multiplicities .exit) ≡ lentDue 2 (now (answers .entry)) (now (multiplicities .entry)) (recordAll (lentList capacity used (now (keys .entry)) (now (multiplicities .entry))) (entry opcode «left_operand» «right_operand») .left .multiplicities) ⌝ }
 {
     c_lists::record_entry(
         capacity,
@@ -91,8 +100,8 @@ pub extern "C" fn u32_table_read(
     answers: &mut [u64],
 ) -> u64
     ensures answers { λ r. ⌜ Exported 1 (readAll (lentList capacity used (now (keys .entry)) (now (multiplicities .entry))) (now (bytes .entry)) .answer) (now (answers .entry)) r (now (answers .exit)) ⌝ }
-    ensures keys { λ _. ⌜ now (keys .exit) ≡ lentDue 1 (now (answers .entry)) (now (keys .entry)) (readAll (lentList capacity used (now (keys .entry)) (now (multiplicities .entry))) (now (bytes .entry)) .list .keys) ⌝ }
-    ensures multiplicities { λ _. ⌜ now (multiplicities .exit) ≡ lentDue 1 (now (answers .entry)) (now (multiplicities .entry)) (readAll (lentList capacity used (now (keys .entry)) (now (multiplicities .entry))) (now (bytes .entry)) .list .multiplicities) ⌝ }
+    ensures keys { λ _. ⌜ now (keys .exit) ≡ lentDue 1 (now (answers .entry)) (now (keys .entry)) (readAll (lentList capacity used (now (keys .entry)) (now (multiplicities .entry))) (now (bytes .entry)) .left .keys) ⌝ }
+    ensures multiplicities { λ _. ⌜ now (multiplicities .exit) ≡ lentDue 1 (now (answers .entry)) (now (multiplicities .entry)) (readAll (lentList capacity used (now (keys .entry)) (now (multiplicities .entry))) (now (bytes .entry)) .left .multiplicities) ⌝ }
 {
     c_lists::read(bytes, capacity, used, keys, multiplicities, answers)
 }
@@ -108,7 +117,7 @@ pub extern "C" fn u32_table_write(
     answers: &mut [u64],
 ) -> u64
     ensures answers { λ r. ⌜ Exported 1 (writeAll (lentList capacity used (now (keys .entry)) (now (multiplicities .entry))) (now (out .entry)) .answer) (now (answers .entry)) r (now (answers .exit)) ⌝ }
-    ensures bytes { λ _. ⌜ now (out .exit) ≡ lentDue 1 (now (answers .entry)) (now (out .entry)) (writeAll (lentList capacity used (now (keys .entry)) (now (multiplicities .entry))) (now (out .entry)) .bytes) ⌝ }
+    ensures bytes { λ _. ⌜ now (out .exit) ≡ lentDue 1 (now (answers .entry)) (now (out .entry)) (writeAll (lentList capacity used (now (keys .entry)) (now (multiplicities .entry))) (now (out .entry)) .left) ⌝ }
 {
     c_lists::write(capacity, used, keys, multiplicities, out, answers)
 }
@@ -123,8 +132,8 @@ pub extern "C" fn u32_table_fill(
     table: &mut [u64],
     answers: &mut [u64],
 ) -> u64
-    ensures answers { λ r. ⌜ Exported 1 (fillAll (lentList capacity used (now (keys .entry)) (now (multiplicities .entry))) (now (table .entry)) .answer) (now (answers .entry)) r (now (answers .exit)) ⌝ }
-    ensures table { λ _. ⌜ now (table .exit) ≡ lentDue 1 (now (answers .entry)) (now (table .entry)) (fillAll (lentList capacity used (now (keys .entry)) (now (multiplicities .entry))) (now (table .entry)) .table) ⌝ }
+    ensures answers { λ r. ⌜ FillAnswers capacity used (now (keys .entry)) (now (multiplicities .entry)) (now (table .entry)) (now (answers .entry)) r (now (answers .exit)) ⌝ }
+    ensures table { λ _. ⌜ FillLeaves capacity used (now (keys .entry)) (now (multiplicities .entry)) (now (table .entry)) (now (answers .entry)) (now (table .exit)) ⌝ }
 {
     c_tables::fill(capacity, used, keys, multiplicities, table, answers)
 }
@@ -133,7 +142,7 @@ pub extern "C" fn u32_table_fill(
 #[no_mangle]
 pub extern "C" fn u32_table_pad(table: &mut [u64], filled: usize) -> u64
     ensures number { λ r. ⌜ r ≡ padAll (now (table .entry)) filled .answer .number ⌝ }
-    ensures table { λ _. ⌜ now (table .exit) ≡ padAll (now (table .entry)) filled .table ⌝ }
+    ensures table { λ _. ⌜ now (table .exit) ≡ padAll (now (table .entry)) filled .left ⌝ }
 {
     c_tables::pad(table, filled)
 }
@@ -146,8 +155,8 @@ pub extern "C" fn u32_table_extend(
     challenges: &[u64],
     answers: &mut [u64],
 ) -> u64
-    ensures answers { λ r. ⌜ Exported 3 (extendAll (now (table .entry)) (now (aux .entry)) (now (challenges .entry)) .answer) (now (answers .entry)) r (now (answers .exit)) ⌝ }
-    ensures aux { λ _. ⌜ now (aux .exit) ≡ lentDue 3 (now (answers .entry)) (now (aux .entry)) (extendAll (now (table .entry)) (now (aux .entry)) (now (challenges .entry)) .aux) ⌝ }
+    ensures answers { λ r. ⌜ ExtendAnswers (now (table .entry)) (now (aux .entry)) (now (challenges .entry)) (now (answers .entry)) r (now (answers .exit)) ⌝ }
+    ensures aux { λ _. ⌜ ExtendLeaves (now (table .entry)) (now (aux .entry)) (now (challenges .entry)) (now (answers .entry)) (now (aux .exit)) ⌝ }
 {
     c_tables::extend(table, aux, challenges, answers)
 }
@@ -160,7 +169,7 @@ pub extern "C" fn u32_table_check(
     challenges: &[u64],
     answers: &mut [u64],
 ) -> u64
-    ensures answers { λ r. ⌜ Exported 7 (verdictDue (checkAll (now (table .entry)) (now (aux .entry)) (now (challenges .entry)))) (now (answers .entry)) r (now (answers .exit)) ⌝ }
+    ensures answers { λ r. ⌜ CheckAnswers (now (table .entry)) (now (aux .entry)) (now (challenges .entry)) (now (answers .entry)) r (now (answers .exit)) ⌝ }
     ensures zero_iff { λ r. ⌜ SaysZeroIff (now (table .entry)) (now (aux .entry)) (now (challenges .entry)) (now (answers .entry)) r (now (answers .exit)) ⌝ }
     ensures sound { λ r. ⌜ SaysZeroSound (now (table .entry)) r (now (answers .exit)) ⌝ }
     ensures sum { λ r. ⌜ SaysZeroSums (now (table .entry)) (now (aux .entry)) (now (challenges .entry)) r (now (answers .exit)) ⌝ }

@@ -6,22 +6,23 @@ use mathlib.Core.Path.{_≡_, refl, sym, ap, _∙_}
 use mathlib.Core.Bool.{Bool, true, false, cond}
 use mathlib.Core.List.{List, [], _∷_}
 use native.Mathlib.Omega.{arith}
-use borrow.Author.Tests.{ltb-false, le-ltb, eq-eqb, eqb-true, eqb-false}
+use borrow.Author.Tests.{ltb-false, le-ltb, eq-eqb, eqb-true}
 use lib.Dec.{eqb, ltb}
 use lib.ListN.{length, drop, length-replicate}
-use Rattle.words.specs.Limits.{maxRows, maxInput, maxPrintedRows}
+use Rattle.words.specs.Limits.{maxRows}
 use Rattle.words.specs.Answers.{Answer, done, declined}
 use Rattle.words.specs.Refusals.{refusalNumber, declineIf, orElse}
 use Rattle.words.specs.declared.Refusal.the-variants.{Shape, Short, Torn}
 use Rattle.words.specs.declared.Judgement.{Judgement}
 use Rattle.words.specs.declared.Judgement.the-variants.{Fine, Declined}
+use Rattle.words.proofs.Outcomes.{outcome-done}
 use Rattle.list.specs.Lists.{U32List, used, judgeList}
 use Rattle.list.specs.Heights.{listHeight}
-use Rattle.list_record.specs.Heights.{paddedHeight, planAll}
+use Rattle.list_record.specs.Plan.{paddedHeight, planAll}
 use Rattle.list_record.proofs.PaddedHeight.{padded-at-least, padded-positive}
-use Rattle.list_stored.specs.Stored.{readReason, readAs, readAll}
+use Rattle.list_stored.specs.Stored.{readReason, readAll}
 use Rattle.list_round_trips.proofs.RoundTrips.{read-list-fine}
-use Rattle.air.specs.Columns.{mainWidth, auxWidth, rowCount, tableShape}
+use Rattle.table.specs.Columns.{mainWidth, auxWidth, rowCount, tableShape}
 use Rattle.air.specs.Check.{checkAll}
 use Rattle.fill.specs.Filling.{fillReason, fillAll}
 use Rattle.fill.specs.Padding.{padAll}
@@ -30,9 +31,9 @@ use Rattle.four_calls.specs.FourCalls.{paddedTable, NoneRefuses}
 use Rattle.four_calls.proofs.Calls.{fill-answer}
 use Rattle.four_calls.proofs.FourCalls.{four-calls, after-fill}
 use Rattle.text.specs.Lines.{refusedLine}
-use Rattle.transcript.specs.Transcript.{challengeBytes, challengesIn, zeros, unusedPlaces, unlessRefused, resultText}
+use Rattle.transcript.specs.Transcript.{maxInput, maxPrintedRows, challengeBytes, inputChallenges, zeros, unusedPlaces, unlessRefused, resultText}
 use Rattle.transcript.specs.Transcript.{checkedText, extendedText, paddedText, callsText, heightText, listText, readText, transcriptOf}
-use Rattle.transcript.proofs.Steps.{text-made, reason-not-zero}
+use Rattle.transcript.proofs.Steps.{text-made}
 use Rattle.u32list.specs.Plain.{plainTable, plainList, plainText}
 
 -- ---- answers
@@ -53,12 +54,9 @@ answer-done a e = ap (λ (n : ℕ). record { number = n; values = a .values }) e
 module _ (s : List ℕ) where
   read-fine : readAll unusedPlaces s .answer .number ≡ 0 → readReason unusedPlaces s ≡ Fine
   unfolding readAll
-  read-fine e = go (readReason unusedPlaces s) refl e where
-    go : (j : Judgement) → readReason unusedPlaces s ≡ j → readAs j unusedPlaces s .answer .number ≡ 0 → readReason unusedPlaces s ≡ Fine
-    go Fine h e = h
-    go (Declined reason) h e = absurd (eqb-false (refusalNumber reason) 0 (reason-not-zero reason) e)
+  read-fine e = outcome-done (readReason unusedPlaces s) _ _ _ e
 
-  list-fine : readAll unusedPlaces s .answer .number ≡ 0 → judgeList (readAll unusedPlaces s .list) ≡ Fine
+  list-fine : readAll unusedPlaces s .answer .number ≡ 0 → judgeList (readAll unusedPlaces s .left) ≡ Fine
   list-fine e = read-list-fine unusedPlaces s (read-fine e)
 
 -- ---- a table of as many rows as the padded height
@@ -123,15 +121,15 @@ list-plainly l challenges fine =
 read-plainly : (s challenges : List ℕ)
     → readText s challenges
     ≡ unlessRefused (readAll unusedPlaces s .answer)
-    (plainList (readAll unusedPlaces s .list) challenges (listHeight (readAll unusedPlaces s .list))
-    (paddedHeight (listHeight (readAll unusedPlaces s .list))))
+    (plainList (readAll unusedPlaces s .left) challenges (listHeight (readAll unusedPlaces s .left))
+    (paddedHeight (listHeight (readAll unusedPlaces s .left))))
 unfolding readText
 read-plainly s challenges =
-    unless-same (readAll unusedPlaces s .answer) _ _ (λ e. list-plainly (readAll unusedPlaces s .list) challenges (list-fine s e))
+    unless-same (readAll unusedPlaces s .answer) _ _ (λ e. list-plainly (readAll unusedPlaces s .left) challenges (list-fine s e))
 
 pub prints-plainly : (input : List ℕ) → transcriptOf input ≡ plainText input
 unfolding transcriptOf plainText
 prints-plainly input =
     cond-same (ltb (length input) challengeBytes) _ _ _
     (λ _. cond-same (ltb maxInput (length input)) _ _ _
-    (λ _. read-plainly (drop challengeBytes input) (challengesIn input)))
+    (λ _. read-plainly (drop challengeBytes input) (inputChallenges input)))

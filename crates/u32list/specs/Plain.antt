@@ -5,18 +5,17 @@ use mathlib.Core.Bool.{cond}
 use mathlib.Core.List.{List, []}
 use lib.Dec.{ltb}
 use lib.ListN.{length, drop}
-use Rattle.words.specs.Limits.{maxInput, maxPrintedRows}
 use Rattle.words.specs.Refusals.{refusalNumber}
 use Rattle.words.specs.declared.Refusal.the-variants.{Shape, Short, Torn}
 use Rattle.list.specs.Lists.{U32List, used}
 use Rattle.list.specs.Heights.{listHeight}
-use Rattle.list_record.specs.Heights.{paddedHeight}
+use Rattle.list_record.specs.Plan.{paddedHeight}
 use Rattle.list_stored.specs.Stored.{readAll}
-use Rattle.air.specs.Columns.{mainWidth, auxWidth}
+use Rattle.table.specs.Columns.{mainWidth, auxWidth}
 use Rattle.fill.specs.Extending.{extendAll}
 use Rattle.four_calls.specs.FourCalls.{paddedTable}
 use Rattle.text.specs.Lines.{refusedLine}
-use Rattle.transcript.specs.Transcript.{challengeBytes, challengesIn, zeros, unusedPlaces, unlessRefused, resultText}
+use Rattle.transcript.specs.Transcript.{maxInput, maxPrintedRows, challengeBytes, inputChallenges, zeros, unusedPlaces, unlessRefused, resultText}
 
 -- "then extension refuses", and else all is printed, and the check's answer is `zero`
 unfoldable pub plainTable : U32List → (challenges : List ℕ) → (height padded : ℕ) → List ℕ
@@ -34,7 +33,7 @@ plainList l challenges height padded =
 unfoldable pub plainText : List ℕ → List ℕ
 plainText input =
     let reading = readAll unusedPlaces (drop challengeBytes input) in
-    let height = listHeight (reading .list) in
+    let height = listHeight (reading .left) in
     cond (ltb (length input) challengeBytes) (refusedLine (refusalNumber Shape))
     (cond (ltb maxInput (length input)) (refusedLine (refusalNumber Torn))
-    (unlessRefused (reading .answer) (plainList (reading .list) (challengesIn input) height (paddedHeight height))))
+    (unlessRefused (reading .answer) (plainList (reading .left) (inputChallenges input) height (paddedHeight height))))

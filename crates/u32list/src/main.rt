@@ -1,7 +1,6 @@
 // u32list: reads fifteen challenges and a stored list from standard input, and writes the padded table, the last sum and the check's answer.
-// `transcript` does all of it but the reading and the writing.
-use libc::STDIN_FILENO;
-use libc::STDOUT_FILENO;
+// `transcript` does all of it but the reading and the writing; where one of those fails, a line on standard error says so (`streams`).
+use streams::Filled;
 use transcript::MAX_INPUT;
 use transcript::MAX_TEXT;
 use transcript::Transcribed;
@@ -10,8 +9,9 @@ use transcript::Transcribed;
 fn main() {
     let mut input = [0u8; MAX_INPUT + 1];
     let mut out = [0u8; MAX_TEXT];
-    let n = io::read_full(STDIN_FILENO, &mut input);
-    if let Transcribed::Length(length) = transcript::transcript(&input[..n], &mut out) {
-        io::write_all(STDOUT_FILENO, &out[..length]);
+    if let Filled::Bytes(n) = streams::read_full(&mut input) {
+        if let Transcribed::Length(length) = transcript::transcript(&input[..n], &mut out) {
+            streams::write_all(&out[..length]);
+        }
     }
 }

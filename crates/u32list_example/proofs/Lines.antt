@@ -4,8 +4,8 @@ use Prim.Native.Nat.{ℕ, zero, suc}
 use mathlib.Core.Path.{_≡_, refl, sym, ap, _∙_}
 use mathlib.Core.List.{List, [], _∷_, _++_, flatMap, append-nil, append-assoc}
 use lib.ListN.{replicate, length}
-use Rattle.air.specs.Columns.{Row, rowAt, rowCount}
-use Rattle.fill_sections.specs.Sections.{rowWords, tableWords}
+use Rattle.table.specs.Columns.{Row, rowAt, rowCount}
+use Rattle.table.specs.RowWords.{rowWords, tableWords}
 use Rattle.four_calls.specs.FourCalls.{tableRowsTo}
 use Rattle.four_calls.proofs.RowLists.{rows-of-words, words-rows}
 use Rattle.four_calls.proofs.Tables.{front}

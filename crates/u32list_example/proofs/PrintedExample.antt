@@ -11,35 +11,38 @@ use lib.ListN.{drop, replicate}
 use Rattle.field.specs.Elements.{invF, addF, subF, mulF}
 use Rattle.field.proofs.Powers.{invF-computed}
 use Rattle.xfield.specs.Extension.{Ext, ext, zeroX, oneX, addX, subX, mulX, scaleX, HasInverse, equalX, isZeroX}
-use Rattle.xfield.proofs.Inverses.{invX, invX-only}
+use Rattle.xfield.specs.Inverses.{invX}
+use Rattle.xfield.proofs.Inverses.{invX-only}
 use Rattle.xfield.proofs.RingLawsX.{reduceX-reduced}
 use Rattle.words.specs.Answers.{Answer, done}
 use Rattle.words.specs.Refusals.{firstReason}
 use Rattle.words.specs.LittleEndian.{leAt}
 use Rattle.words.specs.declared.Judgement.the-variants.{Fine}
+use Rattle.words.specs.Places.{placesFrom}
 use Rattle.isa.specs.Opcodes.{isOpcode}
-use Rattle.isa.specs.Entries.{judgeEntry, admitted, admit, dominant, heightOf, height}
+use Rattle.isa.specs.Entries.{judgeEntry, admitStored, admitted, admit, dominant, heightOf, height}
 use Rattle.isa.specs.PlainFunctions.{floorLog2}
-use Rattle.list.specs.Lists.{U32List, u32List, keyAt, multiplicityAt, entryAt, listShape, countFull, judgePlace, judgeList}
+use Rattle.list.specs.Lists.{U32List, u32List, keyAt, multiplicityAt, entryAt, listShape, countFull, judgeEntryBy, judgePlaceBy, judgeList}
 use Rattle.list.specs.Heights.{getsSection, sectionPlacesTo, sectionPlaces, entriesAt, sumHeights, listHeight}
-use Rattle.list.specs.Places.{placesFrom}
-use Rattle.list_record.specs.Heights.{paddedHeight, planAll}
+use Rattle.list_record.specs.Plan.{paddedHeight, planAll}
 use Rattle.list_bytes.specs.Packed.{storedN, storedHeight, storedEntry, widthOf, storedMultiplicity}
 use Rattle.list_repeats.specs.Repeats.{occurs, repeats}
-use Rattle.list_stored.specs.Stored.{torn, admitStored, tally, judgeStored, contentReason, readReason, readAll}
-use Rattle.air.specs.Columns.{Row, elementAt, tableShape, auxShape, allReduced}
-use Rattle.air.specs.Challenges.{challengesOf, challengesShape, compressedRow, denominator}
+use Rattle.list_stored.specs.Stored.{torn, tally, judgeStored, contentReason, readReason, readAll}
+use Rattle.table.specs.Columns.{Row, elementAt, tableShape, auxShape, allReduced}
+use Rattle.table.specs.Challenges.{challengesOf, challengesShape, compressedRow, denominator}
 use Rattle.air.specs.Check.{checkAll}
 use Rattle.fill_results.specs.Results.{isEnd, ending, carryAnd, carry}
-use Rattle.fill_sections.specs.Sections.{bitsMinus33Inverse, sectionFrom, section, tableWords}
-use Rattle.fill.specs.Filling.{Sections, joined, noSections, sectionsAt, fillReason}
+use Rattle.table.specs.RowWords.{tableWords}
+use Rattle.fill_sections.specs.Sections.{bitsMinus33Inverse, sectionFrom, section}
+use Rattle.fill.specs.Filling.{sectionsAt, fillReason}
 use Rattle.fill.specs.Padding.{paddingRow}
-use Rattle.fill.specs.Extending.{elementWords, extendAll}
+use Rattle.sums.specs.RunningSum.{elementWords}
+use Rattle.fill.specs.Extending.{extendAll}
 use Rattle.four_calls.specs.FourCalls.{firstRows, sumFrom, noneZero, extendRefusals, copyFlag1, paddedTable, extendedAux, NoneRefuses}
 use Rattle.four_calls.proofs.Calls.{Filled, fill-filled, finalRows, padded-is}
 use Rattle.four_calls.proofs.FourCalls.{four-calls, none-refuses}
 use Rattle.text.specs.Lines.{ascii, digitsOf, decimal, lineRest, line, headLine, rowLine, sumLine, verdictLine}
-use Rattle.transcript.specs.Transcript.{challengeBytes, challengesIn, zeros, unusedPlaces, unlessRefused, rowLines, openingText, resultText}
+use Rattle.transcript.specs.Transcript.{challengeBytes, inputChallenges, zeros, unusedPlaces, unlessRefused, rowLines, openingText, resultText}
 use Rattle.transcript.specs.Transcript.{checkedText, extendedText, paddedText, callsText, heightText, listText, readText, transcriptOf}
 use Rattle.transcript.proofs.Steps.{text-made}
 use Rattle.u32list_example.specs.PrintedExample.{input, repeated, printed}
@@ -53,12 +56,12 @@ list = u32List (record { capacity = 2048; used = 1 }) (14 ∷ 3 ∷ 1 ∷ replic
 abbrev challenges : List ℕ
 challenges = 1 ∷ replicate 14 0
 
-challenges-are : challengesIn input ≡ challenges
-unfolding challengesIn leAt placesFrom
+challenges-are : inputChallenges input ≡ challenges
+unfolding inputChallenges leAt placesFrom
 challenges-are = refl
 
-reading-is : readAll unusedPlaces (drop challengeBytes input) ≡ record { answer = done (1 ∷ []); list = list }
-unfolding readAll readReason torn storedN storedHeight storedEntry widthOf storedMultiplicity contentReason judgeStored countFull admitStored admit judgeEntry isOpcode firstReason occurs repeats tally leAt listShape height heightOf dominant admitted floorLog2 placesFrom sumHeights flatMap
+reading-is : readAll unusedPlaces (drop challengeBytes input) ≡ record { answer = done (1 ∷ []); left = list }
+unfolding readAll readReason torn storedN storedHeight storedEntry widthOf storedMultiplicity contentReason judgeStored judgeEntryBy countFull admitStored admit judgeEntry isOpcode firstReason occurs repeats tally leAt listShape height heightOf dominant admitted floorLog2 placesFrom sumHeights flatMap
 reading-is = refl
 
 height-is : listHeight list ≡ 3
@@ -70,7 +73,7 @@ unfolding paddedHeight
 padded-height-is = refl
 
 plan-is : planAll list ≡ done (3 ∷ 256 ∷ [])
-unfolding planAll paddedHeight judgeList listShape judgePlace countFull entryAt keyAt multiplicityAt judgeEntry isOpcode firstReason listHeight getsSection sectionPlacesTo entriesAt sumHeights height heightOf dominant admitted floorLog2
+unfolding planAll paddedHeight judgeList listShape judgePlaceBy judgeEntryBy countFull entryAt keyAt multiplicityAt judgeEntry isOpcode firstReason listHeight getsSection sectionPlacesTo entriesAt sumHeights height heightOf dominant admitted floorLog2
 plan-is = refl
 
 -- ---- the inverses that occur
@@ -117,7 +120,7 @@ abbrev aux : List ℕ
 aux = zeros 768
 
 fill-fine : fillReason list table ≡ Fine
-unfolding fillReason tableShape judgeList listShape judgePlace countFull entryAt keyAt multiplicityAt judgeEntry isOpcode firstReason listHeight getsSection sectionPlacesTo entriesAt sumHeights height heightOf dominant admitted floorLog2
+unfolding fillReason tableShape judgeList listShape judgePlaceBy judgeEntryBy countFull entryAt keyAt multiplicityAt judgeEntry isOpcode firstReason listHeight getsSection sectionPlacesTo entriesAt sumHeights height heightOf dominant admitted floorLog2
 fill-fine = refl
 
 abbrev row : (a b c d e f g h i j : ℕ) → Row
@@ -146,20 +149,15 @@ section-rows =
 abbrev padding : Row
 padding = row 0 0 15651782846776010939 14 0 0 0 0 0 0
 
-sections-are : sectionsAt list (sectionPlaces list) ≡ joined section-rows
+sections-are : sectionsAt list (sectionPlaces list) ≡ section-rows
 unfolding sectionPlacesTo getsSection entryAt keyAt multiplicityAt admitted sectionsAt section sectionFrom isEnd ending carry carryAnd addF mulF
 sections-are = rw (bits-0, bits-1, bits-2, inverse-0, inverse-1, inverse-3) refl
 
 filled : Filled list table (listHeight list)
 filled = fill-filled list table fill-fine
 
-rowsOf : Sections → List Row
-rowsOf (joined rows) = rows
-rowsOf noSections = []
-
 rows-are : filled .sections .all-rows ≡ section-rows
-unfolding rowsOf
-rows-are = ap rowsOf (sym (filled .sections .sections-are) ∙ sections-are)
+rows-are = sym (filled .sections .sections-are) ∙ sections-are
 
 final-rows : finalRows filled ≡ section-rows ++ replicate 253 padding
 unfolding paddingRow

@@ -6,8 +6,8 @@ use lib.ListN.{replicate}
 use Rattle.text.specs.Lines.{ascii}
 
 -- fifteen challenge words, the first of them 1
-abbrev pub challengeBytes : List ℕ
-challengeBytes = 1 ∷ replicate 119 0
+abbrev pub exampleChallenges : List ℕ
+exampleChallenges = 1 ∷ replicate 119 0
 
 -- N and height; opcode, LHS, RHS; multiplicity
 abbrev pub storedList : List ℕ
@@ -20,7 +20,7 @@ storedList =
     ∷ 2 ∷ 0 ∷ 0 ∷ 0 ∷ 0 ∷ 0 ∷ 0 ∷ 0 ∷ []
 
 abbrev pub input : List ℕ
-input = challengeBytes ++ storedList
+input = exampleChallenges ++ storedList
 
 -- a text n times
 unfoldable pub repeated : ℕ → List ℕ → List ℕ

@@ -4,6 +4,7 @@ ghost use Prim.Native.Nat.{_≤_};
 ghost use mathlib.Core.Path.{_≡_};
 ghost use lib.ListN.{length};
 ghost use Rattle.vectors.specs.Same.{sameFirst};
+ghost use Rattle.vectors.specs.Counts.{counted, answered, tallied};
 use libc::STDOUT_FILENO;
 
 // A number, and the place after it. Where there is none left, the value is 0 and the place the text's length.
@@ -140,6 +141,34 @@ pub fn bytes(text: &[u8], from: usize, out: &mut [u8], count: usize) -> usize {
     at
 }
 
+// A digit becomes another digit; every other byte stays.
+fn other_digit(b: u8) -> u8 {
+    if !digit(b) {
+        return b;
+    }
+    if b < 57 { b + 1 } else { 56 }
+}
+
+// Where a line ends at place i + 1, a digit at place i becomes another.
+fn change_end(text: &mut [u8], i: usize) {
+    if i < text.len() {
+        if 1 < text.len() - i {
+            if text[i + 1] == b'\n' {
+                text[i] = other_digit(text[i]);
+            }
+        }
+    }
+}
+
+// The last digit of every line becomes another, so that the last number of each line is another: a run of such lines must differ in each.
+pub fn change_lines(text: &mut [u8]) {
+    let mut i: usize = 0;
+    while i < text.len() {
+        change_end(text, i);
+        i += 1;
+    }
+}
+
 // Whether the first `count` bytes of both are the same; a byte past an end differs.
 pub fn same_bytes(a: &[u8], b: &[u8], count: usize) -> bool
     ensures { λ r. ⌜ r ≡ sameFirst count (now (a .entry)) (now (b .entry)) ⌝ }
@@ -180,15 +209,21 @@ pub fn same_words(left: &[u64], right: &[u64], count: usize) -> bool
     true
 }
 
-// Counts of 32 kinds of calls, 16 places each: at place n the calls that answered number n of document 01, and at the last place those
+// Counts of 32 kinds of calls, 32 places each: at place n the calls that answered number n of document 01, and at the last place those
 // that differ from what was wanted.
-const PLACES: usize = 16;
+const KINDS: usize = 32;
 
-const DIFFER: usize = 15;
+const PLACES: usize = 32;
+
+const DIFFER: usize = 31;
+
+pub const COUNTS: usize = KINDS * PLACES;
 
 // Adds one at a place of a kind.
-fn count(counts: &mut [u64; 512], kind: usize, place: usize) {
-    if kind < 32 {
+fn count(counts: &mut [u64; COUNTS], kind: usize, place: usize)
+    ensures { λ _. ⌜ now (counts .exit) ≡ counted (now (counts .entry)) kind place ⌝ }
+{
+    if kind < KINDS {
         if place < PLACES {
             let i = kind * PLACES + place;
             counts[i] = std::num::wrapping_add_u64(counts[i], 1);
@@ -196,19 +231,28 @@ fn count(counts: &mut [u64; 512], kind: usize, place: usize) {
     }
 }
 
-// Notes a call of a kind: the number that it answered, and whether all is as wanted.
-pub fn tally(counts: &mut [u64; 512], kind: usize, number: u64, same: bool) {
-    if number < 15 {
+// Counts the number that a call of a kind answered.
+fn count_answer(counts: &mut [u64; COUNTS], kind: usize, number: u64)
+    ensures { λ _. ⌜ now (counts .exit) ≡ answered (now (counts .entry)) kind number ⌝ }
+{
+    if number < DIFFER as u64 {
         count(counts, kind, number as usize);
     }
+}
+
+// Notes a call of a kind: the number that it answered, and whether all is as wanted.
+pub fn tally(counts: &mut [u64; COUNTS], kind: usize, number: u64, same: bool)
+    ensures { λ _. ⌜ now (counts .exit) ≡ tallied (now (counts .entry)) kind number same ⌝ }
+{
+    count_answer(counts, kind, number);
     if !same {
         count(counts, kind, DIFFER);
     }
 }
 
 // Writes a kind's counts: the calls that were done, those refused with each number that was met, and those that differ.
-pub fn print_tally(name: &[u8], counts: &[u64; 512], kind: usize) {
-    if kind < 32 {
+pub fn print_tally(name: &[u8], counts: &[u64; COUNTS], kind: usize) {
+    if kind < KINDS {
         let from = kind * PLACES;
         print_text(name);
         print_count(b" done", counts[from]);

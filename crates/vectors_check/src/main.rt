@@ -1,6 +1,6 @@
 // Runs the stored vectors of the check: honest, damaged and foreign tables, and all refusals. Standard input has a call a line
 // (tools/vectors.py); what is printed is how many tables were found zero, nonzero or refused, how many answers differ, and how many of the forty
-// constraints were the first nonzero one of some table.
+// constraints were the first nonzero one of some table. Then all lines are run again with the last wanted word of each changed: each must differ.
 use check_table::Verdict;
 use libc::STDIN_FILENO;
 use vectors::part;
@@ -49,11 +49,11 @@ fn kind_of(number: u64, nonzero: u64) -> usize {
     if 0 < nonzero { 2 } else { 1 }
 }
 
-// The constraints of the four groups, 32 places each, stand in the counts from here on.
+// The constraints of the four groups, 32 places each, stand in the counts from here on, past the three kinds.
 const FIRSTS: usize = 128;
 
 // Notes the first constraint that is not zero.
-fn note(counts: &mut [u64; 512], group: u64, index: u64) {
+fn note(counts: &mut [u64; vectors::COUNTS], group: u64, index: u64) {
     if group < 4 {
         if index < 32 {
             counts[FIRSTS + 32 * group as usize + index as usize] = 1;
@@ -62,7 +62,7 @@ fn note(counts: &mut [u64; 512], group: u64, index: u64) {
 }
 
 // How many constraints were noted.
-fn noted(counts: &[u64; 512]) -> u64 {
+fn noted(counts: &[u64; vectors::COUNTS]) -> u64 {
     let mut n: u64 = 0;
     let mut i = FIRSTS;
     while i < 256 {
@@ -73,7 +73,7 @@ fn noted(counts: &[u64; 512]) -> u64 {
 }
 
 // A line: table, aux, challenges, and the eight numbers of the verdict that is wanted.
-fn check(text: &[u8], from: usize, counts: &mut [u64; 512]) -> usize {
+fn check(text: &[u8], from: usize, counts: &mut [u64; vectors::COUNTS]) -> usize {
     let mut table = [0u64; 1024];
     let mut aux = [0u64; 512];
     let mut challenges = [0u64; 32];
@@ -96,7 +96,7 @@ fn check(text: &[u8], from: usize, counts: &mut [u64; 512]) -> usize {
 }
 
 // Runs the lines, at most a hundred thousand of them.
-fn run(text: &[u8], counts: &mut [u64; 512]) {
+fn run(text: &[u8], counts: &mut [u64; vectors::COUNTS]) {
     let mut at: usize = 0;
     let mut lines: usize = 0;
     while lines < 100000 {
@@ -109,14 +109,24 @@ fn run(text: &[u8], counts: &mut [u64; 512]) {
     }
 }
 
+fn run_changed(text: &mut [u8], counts: &mut [u64; vectors::COUNTS]) {
+    vectors::change_lines(text);
+    run(text, counts);
+}
+
 fn main() {
     let mut text = [0u8; 524288];
     let n = io::read_full(STDIN_FILENO, &mut text);
-    let mut counts = [0u64; 512];
+    let mut counts = [0u64; vectors::COUNTS];
     run(&text[..n], &mut counts);
+    let mut changed = [0u64; vectors::COUNTS];
+    run_changed(vectors::byte_part_mut(&mut text, n), &mut changed);
     print_tally(b"zero", &counts, 1);
     print_tally(b"nonzero", &counts, 2);
     print_tally(b"refused", &counts, 3);
     print_count(b"first nonzero constraints", noted(&counts));
     print_text(b"\n");
+    print_tally(b"with the last word changed, zero", &changed, 1);
+    print_tally(b"with the last word changed, nonzero", &changed, 2);
+    print_tally(b"with the last word changed, refused", &changed, 3);
 }

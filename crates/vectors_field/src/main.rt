@@ -1,26 +1,30 @@
 // Runs the stored vectors of base and extension elements: standard input has a call a line (tools/vectors.py), and what is printed is
-// how many calls of each kind were run and how many differ.
+// how many calls of each kind were run and how many differ. Then all lines are run again with the last wanted word of each changed: each must
+// differ.
 use field::BFieldElement;
 use libc::STDIN_FILENO;
 use vectors::print_count;
 use vectors::print_tally;
 use vectors::print_text;
+use vectors::same_words;
 use vectors::tally;
 use xfield::XFieldElement;
 
-fn note_word(counts: &mut [u64; 512], kind: usize, got: u64, want: u64) {
-    tally(counts, kind, 0, got == want);
+fn note_word(counts: &mut [u64; vectors::COUNTS], kind: usize, got: u64, want: u64) {
+    tally(counts, kind, 0, same_words(&[got], &[want], 1));
 }
 
-// Notes an extension element, three words wanted from `at` on.
-fn note_element(counts: &mut [u64; 512], kind: usize, got: XFieldElement, a: u64, b: u64, c: u64) {
-    if got.0.0 == a {
-        if got.1.0 == b {
-            tally(counts, kind, 0, got.2.0 == c);
-            return;
-        }
-    }
-    tally(counts, kind, 0, false);
+// Notes an extension element, of which three words are wanted.
+fn note_element(
+    counts: &mut [u64; vectors::COUNTS],
+    kind: usize,
+    got: XFieldElement,
+    a: u64,
+    b: u64,
+    c: u64,
+) {
+    let words = [got.0.0, got.1.0, got.2.0];
+    tally(counts, kind, 0, same_words(&words, &[a, b, c], 3));
 }
 
 fn bit(b: bool) -> u64 {
@@ -28,7 +32,7 @@ fn bit(b: bool) -> u64 {
 }
 
 // A line of base elements: a b, then new value add sub neg mul inverse is_zero equals.
-fn base(w: &[u64; 32], counts: &mut [u64; 512]) {
+fn base(w: &[u64; 32], counts: &mut [u64; vectors::COUNTS]) {
     let a = BFieldElement(w[0]);
     let b = BFieldElement(w[1]);
     note_word(counts, 0, BFieldElement::new(w[0]).0, w[2]);
@@ -38,7 +42,12 @@ fn base(w: &[u64; 32], counts: &mut [u64; 512]) {
     base_rest(a, b, w, counts);
 }
 
-fn base_rest(a: BFieldElement, b: BFieldElement, w: &[u64; 32], counts: &mut [u64; 512]) {
+fn base_rest(
+    a: BFieldElement,
+    b: BFieldElement,
+    w: &[u64; 32],
+    counts: &mut [u64; vectors::COUNTS],
+) {
     note_word(counts, 4, a.neg().0, w[6]);
     note_word(counts, 5, a.mul(b).0, w[7]);
     note_word(counts, 6, a.inverse_or_zero().0, w[8]);
@@ -51,7 +60,7 @@ fn element(a: u64, b: u64, c: u64) -> XFieldElement {
 }
 
 // A line of extension elements: a b, then new from_base add sub mul scale inverse is_zero equals.
-fn extension(w: &[u64; 32], counts: &mut [u64; 512]) {
+fn extension(w: &[u64; 32], counts: &mut [u64; vectors::COUNTS]) {
     let a = element(w[0], w[1], w[2]);
     let b = element(w[3], w[4], w[5]);
     note_element(
@@ -75,7 +84,12 @@ fn extension(w: &[u64; 32], counts: &mut [u64; 512]) {
     extension_rest(a, b, w, counts);
 }
 
-fn extension_rest(a: XFieldElement, b: XFieldElement, w: &[u64; 32], counts: &mut [u64; 512]) {
+fn extension_rest(
+    a: XFieldElement,
+    b: XFieldElement,
+    w: &[u64; 32],
+    counts: &mut [u64; vectors::COUNTS],
+) {
     note_element(counts, 13, a.mul(b), w[18], w[19], w[20]);
     note_element(counts, 14, a.scale(b.0), w[21], w[22], w[23]);
     note_element(counts, 15, a.inverse_or_zero(), w[24], w[25], w[26]);
@@ -84,7 +98,7 @@ fn extension_rest(a: XFieldElement, b: XFieldElement, w: &[u64; 32], counts: &mu
 }
 
 // Runs the lines, at most a hundred thousand of them.
-fn run(text: &[u8], counts: &mut [u64; 512]) {
+fn run(text: &[u8], counts: &mut [u64; vectors::COUNTS]) {
     let mut at: usize = 0;
     let mut lines: usize = 0;
     while lines < 100000 {
@@ -109,7 +123,7 @@ fn run(text: &[u8], counts: &mut [u64; 512]) {
     }
 }
 
-fn print_base(counts: &[u64; 512]) {
+fn print_base(counts: &[u64; vectors::COUNTS]) {
     print_tally(b"new", counts, 0);
     print_tally(b"value", counts, 1);
     print_tally(b"add", counts, 2);
@@ -121,7 +135,7 @@ fn print_base(counts: &[u64; 512]) {
     print_tally(b"equals", counts, 8);
 }
 
-fn print_extension(counts: &[u64; 512]) {
+fn print_extension(counts: &[u64; vectors::COUNTS]) {
     print_tally(b"extension new", counts, 9);
     print_tally(b"extension from_base", counts, 10);
     print_tally(b"extension add", counts, 11);
@@ -143,12 +157,25 @@ fn print_cube() {
     print_text(b"\n");
 }
 
+fn run_changed(text: &mut [u8], counts: &mut [u64; vectors::COUNTS]) {
+    vectors::change_lines(text);
+    run(text, counts);
+}
+
 fn main() {
     let mut text = [0u8; 131072];
     let n = io::read_full(STDIN_FILENO, &mut text);
-    let mut counts = [0u64; 512];
+    let mut counts = [0u64; vectors::COUNTS];
     run(&text[..n], &mut counts);
+    let mut changed = [0u64; vectors::COUNTS];
+    run_changed(vectors::byte_part_mut(&mut text, n), &mut changed);
     print_base(&counts);
     print_extension(&counts);
+    print_tally(b"with the last word changed, equals", &changed, 8);
+    print_tally(
+        b"with the last word changed, extension equals",
+        &changed,
+        17,
+    );
     print_cube();
 }

@@ -1,5 +1,6 @@
 // Runs the stored vectors of lists: record, compare, plan, read and write. Standard input has a call a line (tools/vectors.py) with every
-// array before and after it; what is printed is how many calls of each kind answered what, and how many differ.
+// array before and after it; what is printed is how many calls of each kind answered what, and how many differ. Then all lines are run again with
+// the last wanted number of each changed: each must differ.
 use isa::Order;
 use isa::U32TableEntry;
 use libc::STDIN_FILENO;
@@ -160,7 +161,7 @@ fn take_entry(text: &[u8], from: usize) -> U32TableEntry {
     U32TableEntry::new(opcode.value, left_operand.value, right_operand.value)
 }
 
-fn record(text: &[u8], from: usize, counts: &mut [u64; 512]) -> usize {
+fn record(text: &[u8], from: usize, counts: &mut [u64; vectors::COUNTS]) -> usize {
     let mut keys = [0u64; 64];
     let mut multiplicities = [0u64; 64];
     let list = take_list(text, from, &mut keys, &mut multiplicities);
@@ -168,7 +169,7 @@ fn record(text: &[u8], from: usize, counts: &mut [u64; 512]) -> usize {
     let m = list.multiplicities;
     let entry = take_entry(text, list.next);
     let wanted = vectors::skip(text, list.next, 3);
-    let r = list_record::record_u32_table_entry_by_value(
+    let r = list_record::record_lending(
         list.sizes,
         part_mut(&mut keys, k),
         part_mut(&mut multiplicities, m),
@@ -214,7 +215,7 @@ fn skip_list(text: &[u8], from: usize, k: usize, m: usize) -> usize {
 }
 
 // ---- compare
-fn compare(text: &[u8], from: usize, counts: &mut [u64; 512]) -> usize {
+fn compare(text: &[u8], from: usize, counts: &mut [u64; vectors::COUNTS]) -> usize {
     let a = take_entry(text, from);
     let second = vectors::skip(text, from, 3);
     let b = take_entry(text, second);
@@ -225,7 +226,7 @@ fn compare(text: &[u8], from: usize, counts: &mut [u64; 512]) -> usize {
 }
 
 // ---- plan
-fn plan(text: &[u8], from: usize, counts: &mut [u64; 512]) -> usize {
+fn plan(text: &[u8], from: usize, counts: &mut [u64; vectors::COUNTS]) -> usize {
     let mut keys = [0u64; 64];
     let mut multiplicities = [0u64; 64];
     let list = take_list(text, from, &mut keys, &mut multiplicities);
@@ -248,7 +249,7 @@ fn both(a: bool, b: bool) -> bool {
 }
 
 // ---- read
-fn read(text: &[u8], from: usize, counts: &mut [u64; 512]) -> usize {
+fn read(text: &[u8], from: usize, counts: &mut [u64; vectors::COUNTS]) -> usize {
     let mut keys = [0u64; 64];
     let mut multiplicities = [0u64; 64];
     let list = take_list(text, from, &mut keys, &mut multiplicities);
@@ -274,7 +275,7 @@ fn read(text: &[u8], from: usize, counts: &mut [u64; 512]) -> usize {
 }
 
 // ---- write
-fn write(text: &[u8], from: usize, counts: &mut [u64; 512]) -> usize {
+fn write(text: &[u8], from: usize, counts: &mut [u64; vectors::COUNTS]) -> usize {
     let mut keys = [0u64; 64];
     let mut multiplicities = [0u64; 64];
     let list = take_list(text, from, &mut keys, &mut multiplicities);
@@ -312,7 +313,7 @@ fn fill_up(
     n: usize,
     keys: &mut [u64],
     multiplicities: &mut [u64],
-    counts: &mut [u64; 512],
+    counts: &mut [u64; vectors::COUNTS],
 ) -> Sizes {
     let mut sizes = Sizes {
         capacity: n,
@@ -320,14 +321,7 @@ fn fill_up(
     };
     let mut i: usize = 0;
     while i < n {
-        let r = list_record::record_u32_table_entry_by_value(
-            sizes,
-            keys,
-            multiplicities,
-            6,
-            i as u64,
-            1,
-        );
+        let r = list_record::record_lending(sizes, keys, multiplicities, 6, i as u64, 1);
         sizes = r.sizes;
         let answer = r.answer;
         note_position(recorded(answer), i as u64, counts);
@@ -337,24 +331,22 @@ fn fill_up(
 }
 
 // A key more than there are places, then the first key again.
-fn overfill(sizes: Sizes, keys: &mut [u64], multiplicities: &mut [u64], counts: &mut [u64; 512]) {
-    let full = list_record::record_u32_table_entry_by_value(sizes, keys, multiplicities, 6, 0, 0);
+fn overfill(
+    sizes: Sizes,
+    keys: &mut [u64],
+    multiplicities: &mut [u64],
+    counts: &mut [u64; vectors::COUNTS],
+) {
+    let full = list_record::record_lending(sizes, keys, multiplicities, 6, 0, 0);
     let last = full.answer;
     let refusal = recorded(last);
     tally(counts, 6, refusal.number, refusal.number == 6);
-    let again = list_record::record_u32_table_entry_by_value(
-        full.sizes,
-        keys,
-        multiplicities,
-        6,
-        0,
-        1,
-    );
+    let again = list_record::record_lending(full.sizes, keys, multiplicities, 6, 0, 1);
     let first = again.answer;
     note_position(recorded(first), 0, counts);
 }
 
-fn note_position(got: Got, position: u64, counts: &mut [u64; 512]) {
+fn note_position(got: Got, position: u64, counts: &mut [u64; vectors::COUNTS]) {
     tally(
         counts,
         6,
@@ -364,35 +356,28 @@ fn note_position(got: Got, position: u64, counts: &mut [u64; 512]) {
 }
 
 // 2,048 places pass, 2,049 are a wrong shape.
-fn places(counts: &mut [u64; 512]) {
+fn places(counts: &mut [u64; vectors::COUNTS]) {
     let mut keys = [0u64; 6144];
     let mut multiplicities = [0u64; 2048];
     let sizes = fill_up(2048, &mut keys, &mut multiplicities, counts);
     overfill(sizes, &mut keys, &mut multiplicities, counts);
 }
 
-fn too_many_places(counts: &mut [u64; 512]) {
+fn too_many_places(counts: &mut [u64; vectors::COUNTS]) {
     let mut keys = [0u64; 6147];
     let mut multiplicities = [0u64; 2049];
     let sizes = Sizes {
         capacity: 2049,
         used: 0,
     };
-    let r = list_record::record_u32_table_entry_by_value(
-        sizes,
-        &mut keys,
-        &mut multiplicities,
-        6,
-        1,
-        1,
-    );
+    let r = list_record::record_lending(sizes, &mut keys, &mut multiplicities, 6, 1, 1);
     let answer = r.answer;
     let got = recorded(answer);
     tally(counts, 6, got.number, got.number == 1);
 }
 
 // ---- all lines
-fn run(text: &[u8], counts: &mut [u64; 512]) {
+fn run(text: &[u8], counts: &mut [u64; vectors::COUNTS]) {
     let mut at: usize = 0;
     let mut lines: usize = 0;
     while lines < 100000 {
@@ -423,11 +408,18 @@ fn run(text: &[u8], counts: &mut [u64; 512]) {
     }
 }
 
+fn run_changed(text: &mut [u8], counts: &mut [u64; vectors::COUNTS]) {
+    vectors::change_lines(text);
+    run(text, counts);
+}
+
 fn main() {
     let mut text = [0u8; 524288];
     let n = io::read_full(STDIN_FILENO, &mut text);
-    let mut counts = [0u64; 512];
+    let mut counts = [0u64; vectors::COUNTS];
     run(&text[..n], &mut counts);
+    let mut changed = [0u64; vectors::COUNTS];
+    run_changed(vectors::byte_part_mut(&mut text, n), &mut changed);
     places(&mut counts);
     too_many_places(&mut counts);
     print_tally(b"record", &counts, 1);
@@ -436,4 +428,9 @@ fn main() {
     print_tally(b"read", &counts, 4);
     print_tally(b"write", &counts, 5);
     print_tally(b"record at 2048 and 2049 places", &counts, 6);
+    print_tally(b"with the last number changed, record", &changed, 1);
+    print_tally(b"with the last number changed, compare", &changed, 2);
+    print_tally(b"with the last number changed, plan", &changed, 3);
+    print_tally(b"with the last number changed, read", &changed, 4);
+    print_tally(b"with the last number changed, write", &changed, 5);
 }

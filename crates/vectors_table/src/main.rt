@@ -1,9 +1,9 @@
 // Runs the stored vectors of filling, padding and extension, and of the four calls in a row. Standard input has a call a line (tools/vectors.py) with the arrays before and
-// after it; what is printed is how many calls of each kind answered what, and how many differ in an answer or a word.
+// after it; what is printed is how many calls of each kind answered what, and how many differ in an answer or a word. Then all lines are run again
+// with the last wanted number of each changed: each must differ.
 use check_table::Verdict;
 use extend::Extended;
 use fill::Filled;
-use fill::Padded;
 use libc::STDIN_FILENO;
 use list_record::Sizes;
 use vectors::part;
@@ -11,6 +11,7 @@ use vectors::part_mut;
 use vectors::print_tally;
 use vectors::same_words;
 use vectors::tally;
+use words::Completed;
 
 // An array in a buffer: how many of its words, and the place in the text after it.
 struct Taken {
@@ -44,10 +45,10 @@ fn filled(answer: Filled) -> Got {
     }
 }
 
-fn padded(answer: Padded) -> u64 {
+fn padded(answer: Completed) -> u64 {
     match answer {
-        Padded::Done => 0,
-        Padded::Refused(reason) => reason.number(),
+        Completed::Done => 0,
+        Completed::Refused(reason) => reason.number(),
     }
 }
 
@@ -59,11 +60,11 @@ fn extended(answer: Extended) -> [u64; 4] {
     }
 }
 
-// A run's answer: 0 where the check found every constraint zero, 14 where it found one that is not, else the reason's number.
+// A run's answer: 0 where the check found every constraint zero, 30 where it found one that is not, else the reason's number.
 fn ran(answer: Verdict) -> u64 {
     match answer {
         Verdict::Zero => 0,
-        Verdict::Nonzero(_, _, _, _) => 14,
+        Verdict::Nonzero(_, _, _, _) => 30,
         Verdict::Refused(reason) => reason.number(),
     }
 }
@@ -80,7 +81,7 @@ fn both(a: bool, b: bool) -> bool {
 }
 
 // ---- fill: a list, a table; number and height; the table after it
-fn fill(text: &[u8], from: usize, counts: &mut [u64; 512]) -> usize {
+fn fill(text: &[u8], from: usize, counts: &mut [u64; vectors::COUNTS]) -> usize {
     let mut keys = [0u64; 64];
     let mut multiplicities = [0u64; 64];
     let mut table = [0u64; 1024];
@@ -109,7 +110,7 @@ fn note_fill(
     got: Got,
     table: &[u64],
     length: usize,
-    counts: &mut [u64; 512],
+    counts: &mut [u64; vectors::COUNTS],
 ) -> usize {
     let number = vectors::number(text, from);
     let value = vectors::number(text, number.next);
@@ -120,7 +121,7 @@ fn note_fill(
 }
 
 // ---- pad: a table, the filled count; number; the table after it
-fn pad(text: &[u8], from: usize, counts: &mut [u64; 512]) -> usize {
+fn pad(text: &[u8], from: usize, counts: &mut [u64; vectors::COUNTS]) -> usize {
     let mut table = [0u64; 1024];
     let t = take(text, from, &mut table);
     let count = vectors::number(text, t.next);
@@ -132,7 +133,7 @@ fn pad(text: &[u8], from: usize, counts: &mut [u64; 512]) -> usize {
 }
 
 // ---- extend: a table, aux, challenges; number and three words; aux after it
-fn extend(text: &[u8], from: usize, counts: &mut [u64; 512]) -> usize {
+fn extend(text: &[u8], from: usize, counts: &mut [u64; vectors::COUNTS]) -> usize {
     let mut table = [0u64; 1024];
     let mut aux = [0u64; 1024];
     let mut challenges = [0u64; 32];
@@ -154,7 +155,7 @@ fn note_extend(
     got: &[u64; 4],
     aux: &[u64],
     length: usize,
-    counts: &mut [u64; 512],
+    counts: &mut [u64; vectors::COUNTS],
 ) -> usize {
     let mut wanted = [0u64; 4];
     let next = vectors::numbers(text, from, &mut wanted, 4);
@@ -165,7 +166,7 @@ fn note_extend(
 }
 
 // ---- run: a list, a table, aux, challenges; number; table and aux after it
-fn whole_run(text: &[u8], from: usize, counts: &mut [u64; 512]) -> usize {
+fn whole_run(text: &[u8], from: usize, counts: &mut [u64; vectors::COUNTS]) -> usize {
     let mut keys = [0u64; 64];
     let mut multiplicities = [0u64; 64];
     let mut table = [0u64; 1024];
@@ -211,7 +212,7 @@ fn note_run(
     length: usize,
     aux: &[u64],
     aux_length: usize,
-    counts: &mut [u64; 512],
+    counts: &mut [u64; vectors::COUNTS],
 ) -> usize {
     let wanted = vectors::number(text, from);
     let table_words = table_is(text, wanted.next, table, length);
@@ -223,7 +224,7 @@ fn note_run(
 }
 
 // Runs the lines, at most a hundred thousand of them.
-fn run(text: &[u8], counts: &mut [u64; 512]) {
+fn run(text: &[u8], counts: &mut [u64; vectors::COUNTS]) {
     let mut at: usize = 0;
     let mut lines: usize = 0;
     while lines < 100000 {
@@ -251,13 +252,24 @@ fn run(text: &[u8], counts: &mut [u64; 512]) {
     }
 }
 
+fn run_changed(text: &mut [u8], counts: &mut [u64; vectors::COUNTS]) {
+    vectors::change_lines(text);
+    run(text, counts);
+}
+
 fn main() {
     let mut text = [0u8; 589824];
     let n = io::read_full(STDIN_FILENO, &mut text);
-    let mut counts = [0u64; 512];
+    let mut counts = [0u64; vectors::COUNTS];
     run(&text[..n], &mut counts);
+    let mut changed = [0u64; vectors::COUNTS];
+    run_changed(vectors::byte_part_mut(&mut text, n), &mut changed);
     print_tally(b"fill", &counts, 1);
     print_tally(b"pad", &counts, 2);
     print_tally(b"extend", &counts, 3);
     print_tally(b"run", &counts, 4);
+    print_tally(b"with the last number changed, fill", &changed, 1);
+    print_tally(b"with the last number changed, pad", &changed, 2);
+    print_tally(b"with the last number changed, extend", &changed, 3);
+    print_tally(b"with the last number changed, run", &changed, 4);
 }

@@ -1,6 +1,7 @@
 // Runs stored cases of `transcript`: input bytes, and the text that is due. Standard input has them one after the other (tests/pack-cases).
 // Every case is run twice, with an output of the least size that is admitted and with one that is a byte shorter. What is printed is how many
-// cases got what answer, and in how many the answer, the text or a byte past it differs.
+// cases got what answer, and in how many the answer, the text or a byte past it differs. Each text is also compared with the file's bytes a place
+// later: each must differ.
 use libc::STDIN_FILENO;
 use transcript::MAX_TEXT;
 use transcript::Transcribed;
@@ -63,12 +64,13 @@ fn text_is_due(
     file: &[u8],
     from: usize,
     length: u64,
-    counts: &mut [u64; 512],
+    counts: &mut [u64; vectors::COUNTS],
 ) {
     mark(out);
     match transcript::transcript(input, out) {
         Transcribed::Length(n) => {
             let number = answered(out);
+            tally(counts, 3, number, begins(out, file, later(from, 1), n));
             if n as u64 == length {
                 if begins(out, file, from, n) {
                     tally(counts, 1, number, untouched(out, n));
@@ -84,7 +86,7 @@ fn text_is_due(
 }
 
 // A case whose output is too short.
-fn output_is_short(input: &[u8], out: &mut [u8], counts: &mut [u64; 512]) {
+fn output_is_short(input: &[u8], out: &mut [u8], counts: &mut [u64; vectors::COUNTS]) {
     mark(out);
     match transcript::transcript(input, out) {
         Transcribed::Length(_) => {
@@ -102,7 +104,7 @@ fn output_is_short(input: &[u8], out: &mut [u8], counts: &mut [u64; 512]) {
 }
 
 // Runs the case that starts at a place of the file; answers the place after it.
-fn run_case(file: &[u8], from: usize, counts: &mut [u64; 512]) -> usize {
+fn run_case(file: &[u8], from: usize, counts: &mut [u64; vectors::COUNTS]) -> usize {
     let mut input = [0u8; 65536];
     let mut out = [0u8; 107804];
     let size = vectors::number(file, from);
@@ -128,7 +130,7 @@ fn run_case(file: &[u8], from: usize, counts: &mut [u64; 512]) -> usize {
     later(text, length.value)
 }
 
-fn run(file: &[u8], counts: &mut [u64; 512]) {
+fn run(file: &[u8], counts: &mut [u64; vectors::COUNTS]) {
     let mut at: usize = 0;
     let mut cases: usize = 0;
     while cases < 1000 {
@@ -143,8 +145,9 @@ fn run(file: &[u8], counts: &mut [u64; 512]) {
 fn main() {
     let mut file = [0u8; 524288];
     let n = io::read_full(STDIN_FILENO, &mut file);
-    let mut counts = [0u64; 512];
+    let mut counts = [0u64; vectors::COUNTS];
     run(&file[..n], &mut counts);
     vectors::print_tally(b"text", &counts, 1);
     vectors::print_tally(b"output a byte short", &counts, 2);
+    vectors::print_tally(b"text a byte later", &counts, 3);
 }

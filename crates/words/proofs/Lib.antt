@@ -2,3 +2,5 @@ pub mod Judgements
 pub mod LittleEndian
 pub mod Sets
 pub mod Answers
+pub mod Outcomes
+pub mod Places

@@ -1,9 +1,9 @@
--- Numbers as bytes: `le` and `leAt` undo each other, k bytes hold the numbers below 256^k, and a number is read from its own bytes alone.
+-- Numbers as bytes: `le` and `leAt` undo each other, and a number is read from its own bytes alone.
 -- Both definitions go by the number of bytes, leAt from its highest byte and le from its lowest: `leAt-head` is the bridge.
 use mathlib.Core.Path.{_≡_, refl, ap, _∙_}
 use mathlib.Core.List.{List, _∷_, _++_}
 use Prim.Native.Nat.{ℕ, zero, suc, _+_, _*_, _-_, _/_, _%_, _^_, _≤_, _<_}
-use native.Mathlib.Nat.{add-zero, add-suc, zero-add, suc-add, add-assoc, add-mul, mul-assoc, mul-comm, mul-le-mul-right, pow-suc}
+use native.Mathlib.Nat.{add-zero, add-suc, zero-add, suc-add, add-assoc, add-mul, mul-assoc, mul-comm, pow-suc}
 use native.Mathlib.Omega.{arith}
 use lib.ListN.{length, getD, take, drop, List·getD-append}
 use lib.Pow.{pow-add}
@@ -63,15 +63,6 @@ pub leAt-eight : (s : List ℕ) (at : ℕ)
     + getD s (at + 7) 0 * 256 ^ 7
 unfolding leAt
 leAt-eight s at = rw add-zero (omega arith)
-
-pub leAt-bound : (s : List ℕ) → ((j : ℕ) → getD s j 0 < 256) → (at k : ℕ) → leAt s at k < 256 ^ k
-unfolding leAt
-leAt-bound s b at zero = omega arith
-leAt-bound s b at (suc k) =
-    let h = leAt-bound s b at k in
-    let x : getD s (at + k) 0 ≤ 255 = omega (arith, b (at + k)) in
-    let m = mul-le-mul-right (256 ^ k) x in
-    rw pow-suc (omega arith)
 
 -- ---- the number depends on those k bytes alone
 

@@ -13,15 +13,6 @@ maxRows = 131072
 abbrev pub multiplicityLimit : ℕ
 multiplicityLimit = 18446744069414584320
 
--- "51,328 bytes become the most input": the program reads "120 challenge bytes" and a stored list onto "2,048 places", 120 + 8 + 25 · 2,048 in
--- all; more is refused with 10
-abbrev pub maxInput : ℕ
-maxInput = 51328
-
 -- "the byte lookup always has 256 rows": no padded height is below it
 abbrev pub minPaddedHeight : ℕ
 minPaddedHeight = 256
-
--- the program refuses "a padded height over 512" with 7
-abbrev pub maxPrintedRows : ℕ
-maxPrintedRows = 512

@@ -18,6 +18,10 @@ abbrev pub outcome : {L : Type 0} → Judgement → (values : List ℕ) → (bef
 outcome Fine values before after = record { answer = done values; left = after }
 outcome (Declined reason) values before after = record { answer = declined reason; left = before }
 
+-- the answer alone, of a call that is lent nothing to write
+abbrev pub answered : Judgement → (values : List ℕ) → Answer
+answered j values = outcome {L = Unit {0}} j values tt tt .answer
+
 -- an answer and what is left are those that are due
 pub record Leaves {L : Type 0} (due : Outcome L) (given : Answer) (after : L) : Type 0 where
   pub answer : given ≡ due .answer
@@ -27,3 +31,8 @@ pub record Leaves {L : Type 0} (due : Outcome L) (given : Answer) (after : L) : 
 abbrev pub completedAnswer : Completed → Answer
 completedAnswer Done = done []
 completedAnswer (Refused reason) = declined reason
+
+-- two calls, the second only where the first did its work; else the reason of the first, and what would be lent to the second as it was
+abbrev pub unlessDeclined : {L : Type 0} → (first : Judgement) → (before : L) → (second : Outcome L) → Outcome L
+unlessDeclined Fine before second = second
+unlessDeclined (Declined reason) before second = record { answer = declined reason; left = before }

@@ -1,4 +1,4 @@
-// What every call shares: the reasons to decline, limits, little-endian numbers, and storing a run of words in a lent array.
+// What every call shares: the reasons to decline, limits and little-endian numbers.
 ghost use mathlib.Core.Path.{_≡_};
 ghost use Prim.Native.Nat.{_+_, _≤_, _<_};
 ghost use lib.ListN.{length};
@@ -107,18 +107,6 @@ pub fn put_le(bytes: &mut [u8], at: usize, k: usize, n: u64)
     while i < k {
         bytes[at + i] = (rest % 256) as u8;
         rest /= 256;
-        i += 1;
-    }
-}
-
-// Stores a row of ten words at place `at` of a table.
-pub fn put_row(table: &mut [u64], at: usize, row: [u64; 10])
-    requires { ⌜ at + 10 ≤ length (now table) ⌝ }
-    ensures { λ _. ⌜ now (table .exit) ≡ sets (now (table .entry)) at row ⌝ }
-{
-    let mut i = 0;
-    while i < 10 {
-        table[at + i] = row[i];
         i += 1;
     }
 }

@@ -1,6 +1,6 @@
 -- Inverses of extension elements. Multiplication by x is linear on the words; the cofactors of its matrix (first row) are the adjugate, and
 -- the adjugate times x is the norm of x, a base element. The norm of a product is the product of the norms. So x has an inverse
--- exactly where its norm is not 0, which is decided by computing it; then the adjugate times the inverse of the norm is one.
+-- exactly where its norm is not 0, which is decided; then the adjugate times the inverse of the norm is one. So `invX` is inverse-or-zero.
 -- Inverses are unique. Assumes nothing.
 use Prim.Native.Nat.{ℕ, _%_}
 use mathlib.Core.Path.{_≡_, refl, sym, _∙_, ap, ap₂, subst}
@@ -10,26 +10,15 @@ use native.Mathlib.Decide.{ℕ-discrete}
 use native.Mathlib.Omega.{arith}
 use Rattle.field.specs.Elements.{p, addF, subF, mulF, invF, InverseOrZero}
 use Rattle.field.proofs.Ring.{Expr, var, con, neg, _:+_, _:*_, _:-_, solve, combine}
-use Rattle.field.proofs.Powers.{powBits, invF-computed}
 use Rattle.field.proofs.Inverses.{invF-is, invF-product}
 use Rattle.field.proofs.RingLaws.{𝔹, mulF-zero, mulF-comm}
 use Rattle.xfield.specs.Extension.{Ext, ext, zeroX, oneX, liftX, reduceX, mulX, scaleX, HasInverse, Reduced, InverseOrZeroX}
+use Rattle.xfield.specs.Inverses.{adjugateX, normX, invX}
 use Rattle.xfield.proofs.RingLawsX.{ExprX, exprX, _*X_, X, Y, env, baseE, solveX, base-scaleX, 𝔼, neg-oneX}
 use Rattle.xfield.proofs.RingLawsX.{mulX-comm, mulX-assoc, mulX-one, mulX-zero, mulX-of-red, red-mulX, mulX-red}
 use Rattle.xfield.proofs.RingLawsX.{reduceX-reduced, reduced-eq, scaleX-reduced, scaleX-mulX, scaleX-zero, zeroX-reduced, liftX-mulF}
 
 -- ---- adjugate and norm
-unfoldable pub adjugateX : Ext → Ext
-adjugateX x =
-    ext
-    (subF (mulF (addF (x .a) (x .c)) (addF (x .a) (x .c))) (mulF (x .b) (subF (x .b) (x .c))))
-    (subF (mulF (x .c) (subF (x .b) (x .c))) (mulF (x .b) (addF (x .a) (x .c))))
-    (subF (mulF (x .b) (x .b)) (mulF (x .c) (addF (x .a) (x .c))))
-
--- the first word of x times its adjugate; the others are 0
-unfoldable pub normX : Ext → ℕ
-normX x = mulX x (adjugateX x) .a
-
 abbrev pub adjugateE : ExprX → ExprX
 adjugateE x =
     exprX
@@ -71,27 +60,19 @@ adjugateX-unit x i h f =
     scaleX-mulX i (adjugateX x) x ∙ ap (scaleX i) (adjugateX-mulX x) ∙ base-scaleX i (normX x)
     ∙ ap (λ t. ext t 0 0) (mulF-comm i (normX x) ∙ h .product (λ e. f (sym (normX-red x) ∙ e)))
 
--- the inverse of a number modulo p, computed: square and multiply
-unfoldable pub invBits : ℕ → ℕ
-invBits n = powBits 64 n 18446744069414584319
-
-pub invBits-is : (n : ℕ) → InverseOrZero n (invBits n)
-unfolding invBits
-invBits-is n = subst (InverseOrZero n) (invF-computed n refl) (invF-is n)
-
 -- "It has an inverse when some element times it is (1, 0, 0)": decided, with the inverse
 unfoldable pub hasInverse? : (x : Ext) → Dec (HasInverse x)
 unfolding HasInverse
 hasInverse? x =
     elim (ℕ-discrete (normX x) 0) [
       | yes z ↦ no (λ h. normX-not-zero x h z)
-      | no f ↦ yes (scaleX (invBits (normX x)) (adjugateX x), adjugateX-unit x (invBits (normX x)) (invBits-is (normX x)) f)
+      | no f ↦ yes (scaleX (invF (normX x)) (adjugateX x), adjugateX-unit x (invF (normX x)) (invF-is (normX x)) f)
     ]
 
 pub hasInverse-iff : (x : Ext) → HasInverse x ↔ (normX x ≢ 0)
 unfolding HasInverse
 hasInverse-iff x =
-    (normX-not-zero x, λ f. (scaleX (invBits (normX x)) (adjugateX x), adjugateX-unit x (invBits (normX x)) (invBits-is (normX x)) f))
+    (normX-not-zero x, λ f. (scaleX (invF (normX x)) (adjugateX x), adjugateX-unit x (invF (normX x)) (invF-is (normX x)) f))
 
 -- ---- the inverse is unique
 pub inverse-unique : (x y z : Ext) → mulX y x ≡ oneX → mulX z x ≡ oneX → reduceX y ≡ reduceX z
@@ -108,18 +89,23 @@ inverse-or-zero-unique x r s h g = go (hasInverse? x)
     go (yes u) = reduced-eq r s (h .below) (g .below) (inverse-unique x r s (h .product u) (g .product u))
     go (no f) = h .none f ∙ sym (g .none f)
 
--- ---- inverse-or-zero as a function: the inverse that was found, its words below p, else zero
-unfoldable pub invX : Ext → Ext
-unfolding HasInverse
-invX x = elim (hasInverse? x) [ yes h ↦ reduceX (h .0) | no f ↦ zeroX ]
+-- ---- inverse-or-zero as a function
+-- the inverse of the norm times the adjugate
+pub adjugateX-inverse : (x : Ext) (i : ℕ) → InverseOrZero (normX x) i → InverseOrZeroX x (scaleX i (adjugateX x))
+adjugateX-inverse x i h =
+    record {
+      below = scaleX-reduced i (adjugateX x);
+      product = λ g. adjugateX-unit x i h (normX-not-zero x g);
+      none = λ f. ap (λ t. scaleX t (adjugateX x)) (h .none (zero-norm f (ℕ-discrete (normX x) 0))) ∙ scaleX-zero (adjugateX x);
+    }
+  where
+    zero-norm : (HasInverse x → ⊥) → Dec (normX x ≡ 0) → normX x % p ≡ 0
+    zero-norm f (yes z) = normX-red x ∙ z
+    zero-norm f (no g) = absurd (f (hasInverse-iff x .1 g))
 
 pub invX-is : (x : Ext) → InverseOrZeroX x (invX x)
-unfolding invX HasInverse
-invX-is x = go (hasInverse? x)
-  where
-    go : (d : Dec (HasInverse x)) → InverseOrZeroX x (elim d [ yes h ↦ reduceX (h .0) | no f ↦ zeroX ])
-    go (yes h) = record { below = reduceX-reduced (h .0); product = λ g. red-mulX (h .0) x ∙ h .1; none = λ f. absurd (f h) }
-    go (no f) = record { below = zeroX-reduced; product = λ g. absurd (f g); none = λ g. refl }
+unfolding invX
+invX-is x = adjugateX-inverse x (invF (normX x)) (invF-is (normX x))
 
 pub invX-only : (x r : Ext) → InverseOrZeroX x r → r ≡ invX x
 invX-only x r h = inverse-or-zero-unique x r (invX x) h (invX-is x)
@@ -141,19 +127,6 @@ invX-not-zero x h z = one≢zero (ap (λ t. t .a) (sym (invX-mulX x h) ∙ ap (�
 pub invX-by-product : (x r : Ext) → Reduced r → mulX r x ≡ oneX → r ≡ invX x
 unfolding HasInverse
 invX-by-product x r b e = invX-only x r (record { below = b; product = λ h. e; none = λ f. absurd (f (r, e)) })
-
--- the inverse of the norm times the adjugate
-pub adjugateX-inverse : (x : Ext) (i : ℕ) → InverseOrZero (normX x) i → InverseOrZeroX x (scaleX i (adjugateX x))
-adjugateX-inverse x i h =
-    record {
-      below = scaleX-reduced i (adjugateX x);
-      product = λ g. adjugateX-unit x i h (normX-not-zero x g);
-      none = λ f. ap (λ t. scaleX t (adjugateX x)) (h .none (zero-norm f (ℕ-discrete (normX x) 0))) ∙ scaleX-zero (adjugateX x);
-    }
-  where
-    zero-norm : (HasInverse x → ⊥) → Dec (normX x ≡ 0) → normX x % p ≡ 0
-    zero-norm f (yes z) = normX-red x ∙ z
-    zero-norm f (no g) = absurd (f (hasInverse-iff x .1 g))
 
 -- the same from its steps: y the adjugate, n the norm, i its inverse, r their product
 pub inverse-by-adjugate : (x y r : Ext) (n i : ℕ)

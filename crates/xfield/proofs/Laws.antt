@@ -36,7 +36,8 @@ pub use Rattle.xfield.proofs.RingLawsX.{scaleX-is, scaleX-zero, scaleX-
 -- Reduced (invX x); HasInverse x → mulX (invX x) x ≡ oneX; (HasInverse x → ⊥) → invX x ≡ zeroX; HasInverse x → invX x ≢ zeroX;
 -- Reduced r → mulX r x ≡ oneX → r ≡ invX x; invX (reduceX x) ≡ invX x; HasInverse (reduceX x) ↔ HasInverse x
 pub use Rattle.xfield.proofs.Inverses.{hasInverse?, inverse-unique}
-pub use Rattle.xfield.proofs.Inverses.{invX, invX-is, invX-only, invX-reduced, invX-mulX, invX-none, invX-not-zero, invX-by-product, invX-of-red}
+pub use Rattle.xfield.specs.Inverses.{invX}
+pub use Rattle.xfield.proofs.Inverses.{invX-is, invX-only, invX-reduced, invX-mulX, invX-none, invX-not-zero, invX-by-product, invX-of-red}
 -- what has an inverse: every element but zero, and no other. cubicAt r ≢ 0, and therefore: reduceX x ≢ zeroX → HasInverse x;
 -- HasInverse x → reduceX x ≢ zeroX; the same of x itself where its words are below p
 pub use Rattle.xfield.proofs.Roots.{no-root, nonzero-has-inverse, has-inverse-not-zero, only-zero-has-none, has-inverse-exactly}

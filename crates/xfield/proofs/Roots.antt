@@ -20,7 +20,8 @@ use Rattle.field.proofs.Powers.{powF-one, powF-suc, powF-add, powF-double}
 use Rattle.field.proofs.Laws.{no-zero-divisors, invF-product}
 use Rattle.xfield.specs.Extension.{Ext, ext, zeroX, oneX, reduceX, subX, mulX, cubicAt, HasInverse, Reduced}
 use Rattle.xfield.proofs.RingLawsX.{ExprX, exprX, _*X_, _-X_, X, Y, env, ext-path, reduced-same}
-use Rattle.xfield.proofs.Inverses.{normX, adjugateX, adjugateE, normE, hasInverse-iff, hasInverse-red, hasInverse-zero}
+use Rattle.xfield.specs.Inverses.{normX, adjugateX}
+use Rattle.xfield.proofs.Inverses.{adjugateE, normE, hasInverse-iff, hasInverse-red, hasInverse-zero}
 
 -- the value of a + b·X + c·X² at r
 unfoldable pub valueAt : ℕ → Ext → ℕ

@@ -19,12 +19,6 @@ impl XFieldElement {
         BFieldElement::ZERO,
     );
 
-    pub const ONE: XFieldElement = XFieldElement(
-        BFieldElement::ONE,
-        BFieldElement::ZERO,
-        BFieldElement::ZERO,
-    );
-
     // The element of three words, each reduced.
     pub fn new(a: u64, b: u64, c: u64) -> Self
         ensures { λ r. ⌜ extOf r ≡ reduceX (ext a b c) ⌝ }

@@ -70,7 +70,8 @@ pub struct Counts {
     pub orders: u64,
     pub round_trips: u64,
     pub elements: u64,
-    pub refusals: [u64; 13],
+    /// By document 01's number.
+    pub refusals: BTreeMap<u64, u64>,
     pub panics: u64,
     pub listed: BTreeMap<&'static str, u64>,
 }
@@ -101,7 +102,7 @@ pub enum Case {
         left: Key,
         right: Key,
     },
-    /// Products of neighbours, inverses of each word, and of each three.
+    /// Products of neighbours, inverses of each word, and of each three; sums, differences and products of neighbouring threes.
     Elements {
         words: Vec<u64>,
     },
@@ -248,7 +249,7 @@ impl Comparison {
 
     /// The port must refuse with this number.
     fn refused<const N: usize>(&mut self, what: &str, answer: port::Answer<N>, number: u64) -> Same {
-        self.counts.refusals[number as usize] += 1;
+        *self.counts.refusals.entry(number).or_default() += 1;
         match answer {
             Err(found) if found == number => Ok(()),
             _ => Err(format!("{what}: the port has {answer:?}, document 01 refusal {number}")),
@@ -750,7 +751,7 @@ impl Comparison {
     fn elements(&mut self, words: &[u64]) -> Same {
         let n = words.len() / 3 * 3;
         let words = &words[..n];
-        self.counts.elements += (2 * n + n / 3) as u64;
+        self.counts.elements += (2 * n + 4 * (n / 3)) as u64;
         let elements: Vec<BFieldElement> = words.iter().map(|&word| BFieldElement::new(word)).collect();
         let zero = BFieldElement::new(0);
         let mut ours = vec![0; n];
@@ -770,7 +771,25 @@ impl Comparison {
             inverse.map_or([0; 3], |inverse| inverse.coefficients.map(|coefficient| coefficient.value()))
         });
         let inverses: Vec<u64> = inverses.collect::<Vec<[u64; 3]>>().into_flattened();
-        self.same("extension inverses", &ours, &inverses)
+        self.same("extension inverses", &ours, &inverses)?;
+        if n > 0 {
+            let right = [&words[3..], &words[..3]].concat();
+            let extension: Vec<XFieldElement> = elements.as_chunks().0.iter().map(|&three| XFieldElement::new(three)).collect();
+            for operation in port::EXT_OPERATIONS {
+                port::ext_operation(operation, words, &right, &mut ours);
+                let theirs = (0..n / 3).flat_map(|i| {
+                    let (x, y) = (extension[i], extension[(i + 1) % (n / 3)]);
+                    let result = match operation.0 {
+                        "ext_sums" => x + y,
+                        "ext_differences" => x - y,
+                        _ => x * y,
+                    };
+                    result.coefficients.map(|coefficient| coefficient.value())
+                });
+                self.same(operation.0, &ours, &theirs.collect::<Vec<u64>>())?;
+            }
+        }
+        Ok(())
     }
 }
 

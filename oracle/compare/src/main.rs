@@ -108,11 +108,10 @@ fn print_counts(counts: &Counts) {
         "heights {} recordings {} orders {} written and read {} element operations {}",
         counts.heights, counts.recordings, counts.orders, counts.round_trips, counts.elements
     );
-    let refusals: Vec<String> =
-        (1..13).filter(|&i| counts.refusals[i] > 0).map(|i| format!("{i}: {}", counts.refusals[i])).collect();
+    let refusals: Vec<String> = counts.refusals.iter().map(|(number, count)| format!("{number}: {count}")).collect();
     println!(
         "refusals {} ({}) panics of the original {}",
-        counts.refusals.iter().sum::<u64>(),
+        counts.refusals.values().sum::<u64>(),
         refusals.join(", "),
         counts.panics
     );

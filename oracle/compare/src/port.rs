@@ -5,129 +5,17 @@
 //! the call's name: a difference.
 use std::cell::Cell;
 
-mod c {
-    unsafe extern "C" {
-        pub fn u32_table_record(
-            capacity: usize,
-            used: usize,
-            keys: *mut u64,
-            key_words: usize,
-            multiplicities: *mut u64,
-            multiplicity_words: usize,
-            opcode: u64,
-            left_operand: u64,
-            right_operand: u64,
-            answers: *mut u64,
-            answer_words: usize,
-        ) -> u64;
-        pub fn u32_table_compare(
-            opcode: u64,
-            left_operand: u64,
-            right_operand: u64,
-            other_opcode: u64,
-            other_left_operand: u64,
-            other_right_operand: u64,
-            answers: *mut u64,
-            answer_words: usize,
-        ) -> u64;
-        pub fn u32_table_plan(
-            capacity: usize,
-            used: usize,
-            keys: *const u64,
-            key_words: usize,
-            multiplicities: *const u64,
-            multiplicity_words: usize,
-            answers: *mut u64,
-            answer_words: usize,
-        ) -> u64;
-        pub fn u32_table_read(
-            bytes: *const u8,
-            byte_count: usize,
-            capacity: usize,
-            used: usize,
-            keys: *mut u64,
-            key_words: usize,
-            multiplicities: *mut u64,
-            multiplicity_words: usize,
-            answers: *mut u64,
-            answer_words: usize,
-        ) -> u64;
-        pub fn u32_table_write(
-            capacity: usize,
-            used: usize,
-            keys: *const u64,
-            key_words: usize,
-            multiplicities: *const u64,
-            multiplicity_words: usize,
-            out: *mut u8,
-            out_bytes: usize,
-            answers: *mut u64,
-            answer_words: usize,
-        ) -> u64;
-        pub fn u32_table_fill(
-            capacity: usize,
-            used: usize,
-            keys: *const u64,
-            key_words: usize,
-            multiplicities: *const u64,
-            multiplicity_words: usize,
-            table: *mut u64,
-            table_words: usize,
-            answers: *mut u64,
-            answer_words: usize,
-        ) -> u64;
-        pub fn u32_table_pad(table: *mut u64, table_words: usize, filled: usize) -> u64;
-        pub fn u32_table_extend(
-            table: *const u64,
-            table_words: usize,
-            aux: *mut u64,
-            aux_words: usize,
-            challenges: *const u64,
-            challenge_words: usize,
-            answers: *mut u64,
-            answer_words: usize,
-        ) -> u64;
-        pub fn u32_table_check(
-            table: *const u64,
-            table_words: usize,
-            aux: *const u64,
-            aux_words: usize,
-            challenges: *const u64,
-            challenge_words: usize,
-            answers: *mut u64,
-            answer_words: usize,
-        ) -> u64;
-        pub fn probe_constraints(
-            rows: *const u64,
-            row_words: usize,
-            aux: *const u64,
-            aux_words: usize,
-            challenges: *const u64,
-            challenge_words: usize,
-            values: *mut u64,
-            value_words: usize,
-        ) -> u64;
-        pub fn probe_products(
-            left: *const u64,
-            left_words: usize,
-            right: *const u64,
-            right_words: usize,
-            out: *mut u64,
-            out_words: usize,
-        ) -> u64;
-        pub fn probe_inverses(words: *const u64, word_count: usize, out: *mut u64, out_words: usize) -> u64;
-        pub fn probe_ext_inverses(words: *const u64, word_count: usize, out: *mut u64, out_words: usize) -> u64;
-    }
-}
+use u32_table_sys as c;
+use u32_table_sys::probes;
 
 /// The stated answers, or the number of the refusal.
 pub type Answer<const N: usize> = Result<[u64; N], u64>;
 
 // ------------------------------------------------------------------------------------------------------- faults, for the self-test
 
-/// What a call hands back: its number, or one of its arrays. With a fault set, one word of it is changed after every fiftieth such call,
+/// What a call hands back: its number, or one of its arrays. With a fault set, one word of it is changed after every twentieth such call,
 /// as a wrong library would: the comparison must find it.
-pub const FAULTS: [&str; 28] = [
+pub const FAULTS: [&str; 31] = [
     "record number",
     "record keys",
     "record multiplicities",
@@ -156,6 +44,9 @@ pub const FAULTS: [&str; 28] = [
     "constraints values",
     "products out",
     "inverses out",
+    "ext_sums out",
+    "ext_differences out",
+    "ext_products out",
 ];
 
 thread_local! {
@@ -167,11 +58,11 @@ pub fn set_fault(fault: Option<&'static str>) {
     FAULT.set(fault);
 }
 
-/// Whether this is a fiftieth time.
+/// Whether this is a twentieth time.
 fn is_faulty(call: &str, what: &str) -> bool {
     let matches = FAULT.get().is_some_and(|fault| fault.split_once(' ') == Some((call, what)));
     CALLS.set(CALLS.get() + matches as u64);
-    matches && CALLS.get() % 50 == 0
+    matches && CALLS.get() % 20 == 0
 }
 
 /// Changes the lowest bit of one word, not always in the same place.
@@ -484,7 +375,7 @@ pub fn constraints(rows: &[u64], aux: &[u64], challenges: &[u64], values: &mut [
     let call = "constraints";
     let mut lent = Lent::new(call, "values", values);
     done(call, unsafe {
-        c::probe_constraints(
+        probes::probe_constraints(
             rows.as_ptr(),
             rows.len(),
             aux.as_ptr(),
@@ -501,19 +392,34 @@ pub fn constraints(rows: &[u64], aux: &[u64], challenges: &[u64], values: &mut [
 pub fn products(left: &[u64], right: &[u64], out: &mut [u64]) {
     let mut lent = Lent::new("products", "out", out);
     done("products", unsafe {
-        c::probe_products(left.as_ptr(), left.len(), right.as_ptr(), right.len(), lent.pointer(), lent.len())
+        probes::probe_products(left.as_ptr(), left.len(), right.as_ptr(), right.len(), lent.pointer(), lent.len())
     });
     lent.back(out);
 }
 
 pub fn inverses(words: &[u64], out: &mut [u64]) {
     let mut lent = Lent::new("inverses", "out", out);
-    done("inverses", unsafe { c::probe_inverses(words.as_ptr(), words.len(), lent.pointer(), lent.len()) });
+    done("inverses", unsafe { probes::probe_inverses(words.as_ptr(), words.len(), lent.pointer(), lent.len()) });
     lent.back(out);
 }
 
 pub fn ext_inverses(words: &[u64], out: &mut [u64]) {
     let mut lent = Lent::new("inverses", "out", out);
-    done("inverses", unsafe { c::probe_ext_inverses(words.as_ptr(), words.len(), lent.pointer(), lent.len()) });
+    done("inverses", unsafe { probes::probe_ext_inverses(words.as_ptr(), words.len(), lent.pointer(), lent.len()) });
+    lent.back(out);
+}
+
+type Probe = unsafe extern "C" fn(*const u64, usize, *const u64, usize, *mut u64, usize) -> u64;
+
+/// Sums, differences and products of extension elements, three words each.
+pub const EXT_OPERATIONS: [(&str, Probe); 3] = [
+    ("ext_sums", probes::probe_ext_sums),
+    ("ext_differences", probes::probe_ext_differences),
+    ("ext_products", probes::probe_ext_products),
+];
+
+pub fn ext_operation((call, probe): (&'static str, Probe), left: &[u64], right: &[u64], out: &mut [u64]) {
+    let mut lent = Lent::new(call, "out", out);
+    done(call, unsafe { probe(left.as_ptr(), left.len(), right.as_ptr(), right.len(), lent.pointer(), lent.len()) });
     lent.back(out);
 }

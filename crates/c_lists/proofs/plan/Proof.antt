@@ -2,7 +2,7 @@
 use mathlib.Core.Path.{sym, ap, _∙_}
 use native.Mathlib.Omega.{arith}
 use borrow.Author.Needs.{needs}
-use Rattle.list_record.specs.Heights.{plannedAnswer}
+use Rattle.list_record.specs.Plan.{plannedAnswer}
 use Rattle.c_answers.proofs.Exporting.{short, work-done, refused}
 use Rattle.c_lists.proofs.plan.Statement.{statement}
 use Rattle.c_lists.proofs.plan.Tie as tie

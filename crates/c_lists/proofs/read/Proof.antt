@@ -40,7 +40,7 @@ returns-2 c =
     let call = c .before .before .before .before .before .before .before .read-list in
     let left = c .before .before .before .before .before .before .before .before .before .before .if1 .left in (
       work-done left (ap readAnswer (sym (c .before .answer .given .1)) ∙ call .ensures .answer) (omega arith),
-      list-called _ _ _ _ _ _ _ _ left (call .ensures .list),
+      list-called _ _ _ _ _ _ _ _ left (call .ensures .left),
     )
 
 same-length-4 : tie.Need-same-length-4
@@ -55,7 +55,7 @@ returns-3 c =
     let left = c .before .before .before .before .before .before .before .before .before .before .before .if1 .left in
     let answer = c .before .before .answer2 in (
       refused (answer .given .0 .0) left (c .number .ensures) (ap readAnswer (sym (answer .given .1)) ∙ call .ensures .answer),
-      list-called _ _ _ _ _ _ _ _ left (call .ensures .list),
+      list-called _ _ _ _ _ _ _ _ left (call .ensures .left),
     )
 
 pub read-spec : {M : Type 1} → statement M

@@ -12,8 +12,8 @@ use Rattle.c_lists.proofs.record_entry.Tie as tie
 returns : tie.Need-returns
 returns c = (short _ _ _ (c .if1 .taken), (lent-short _ _ _ _ (c .if1 .taken), lent-short _ _ _ _ (c .if1 .taken)))
 
-record-u32-table-entry-by-value-requires : tie.Need-record-u32-table-entry-by-value-requires
-record-u32-table-entry-by-value-requires c κs = search needs
+record-lending-requires : tie.Need-record-lending-requires
+record-lending-requires c κs = search needs
 
 enum-known-answer : tie.Need-enum-known-answer
 enum-known-answer c = search needs
@@ -41,10 +41,10 @@ same-length-3 c = search needs
 
 returns-2 : tie.Need-returns-2
 returns-2 c =
-    let call = c .before .before .before .before .before .before .before .record-u32-table-entry-by-value in
+    let call = c .before .before .before .before .before .before .before .record-lending in
     let left = c .before .before .before .before .before .before .before .before .before .before .if1 .left in (
-      work-done left (recorded _ _ _ (ap recordedAnswer (sym (c .before .answer .given .1)) ∙ call .ensures .answer) (call .ensures .list)) (omega arith),
-      list-called _ _ _ _ _ _ _ _ left (call .ensures .list),
+      work-done left (recorded _ _ _ (ap recordedAnswer (sym (c .before .answer .given .1)) ∙ call .ensures .answer) (call .ensures .left)) (omega arith),
+      list-called _ _ _ _ _ _ _ _ left (call .ensures .left),
     )
 
 same-length-4 : tie.Need-same-length-4
@@ -55,12 +55,12 @@ same-length-5 c = search needs
 
 returns-3 : tie.Need-returns-3
 returns-3 c =
-    let call = c .before .before .before .before .before .before .before .before .record-u32-table-entry-by-value in
+    let call = c .before .before .before .before .before .before .before .before .record-lending in
     let left = c .before .before .before .before .before .before .before .before .before .before .before .if1 .left in
     let answer = c .before .before .answer2 in (
       refused-by-number (answer .given .0 .0) left (c .number .ensures)
           (ap (λ (a : Answer). a .number) (ap recordedAnswer (sym (answer .given .1)) ∙ call .ensures .answer)),
-      list-called _ _ _ _ _ _ _ _ left (call .ensures .list),
+      list-called _ _ _ _ _ _ _ _ left (call .ensures .left),
     )
 
 pub record-entry-spec : {M : Type 1} → statement M
@@ -68,7 +68,7 @@ record-entry-spec =
     tie.close
     (tie.spec
     returns
-    record-u32-table-entry-by-value-requires
+    record-lending-requires
     enum-known-answer
     slice-write-answers
     slice-write-answers-2

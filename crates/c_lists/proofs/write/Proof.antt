@@ -36,7 +36,7 @@ returns-2 c =
     let call = c .before .before .before .before .before .write-list in
     let left = c .before .before .before .before .before .before .before .if1 .left in (
       work-done left (ap writtenAnswer (sym (c .before .length .given .1)) ∙ call .ensures .answer) (omega arith),
-      lent-called _ _ _ _ _ left (call .ensures .bytes),
+      lent-called _ _ _ _ _ left (call .ensures .left),
     )
 
 same-length-3 : tie.Need-same-length-3
@@ -48,7 +48,7 @@ returns-3 c =
     let left = c .before .before .before .before .before .before .before .before .if1 .left in
     let reason = c .before .before .reason in (
       refused (reason .given .0 .0) left (c .number .ensures) (ap writtenAnswer (sym (reason .given .1)) ∙ call .ensures .answer),
-      lent-called _ _ _ _ _ left (call .ensures .bytes),
+      lent-called _ _ _ _ _ left (call .ensures .left),
     )
 
 pub write-spec : {M : Type 1} → statement M

@@ -43,7 +43,7 @@ returns-2 c =
     let call = c .before .before .before .before .before .extend in
     let left = c .before .before .before .before .before .before .before .if1 .left in (
       work-done left (ap extendedAnswer (sym (c .before .sum .given .1)) ∙ call .ensures .answer) (omega arith),
-      lent-called _ _ _ _ _ left (call .ensures .aux),
+      lent-called _ _ _ _ _ left (call .ensures .left),
     )
 
 same-length-3 : tie.Need-same-length-3
@@ -55,7 +55,7 @@ returns-3 c =
     let left = c .before .before .before .before .before .before .before .before .if1 .left in
     let reason = c .before .before .reason in (
       refused (reason .given .0 .0) left (c .number .ensures) (ap extendedAnswer (sym (reason .given .1)) ∙ call .ensures .answer),
-      lent-called _ _ _ _ _ left (call .ensures .aux),
+      lent-called _ _ _ _ _ left (call .ensures .left),
     )
 
 pub extend-spec : {M : Type 1} → statement M

@@ -2,7 +2,7 @@
 use mathlib.Core.Path.{sym, ap, _∙_}
 use borrow.Author.Needs.{needs}
 use Rattle.words.specs.Answers.{Answer}
-use Rattle.fill.specs.Padding.{paddedAnswer}
+use Rattle.words.specs.Outcomes.{completedAnswer}
 use Rattle.c_tables.proofs.pad.Statement.{statement}
 use Rattle.c_tables.proofs.pad.Tie as tie
 
@@ -24,7 +24,7 @@ same-length c = search needs
 returns : tie.Need-returns
 returns c =
     let call = c .before .before .before .before .pad in
-    (ap (λ (a : Answer). a .number) (ap paddedAnswer (sym (c .enum-told .given .1)) ∙ call .ensures .answer), call .ensures .table)
+    (ap (λ (a : Answer). a .number) (ap completedAnswer (sym (c .enum-told .given .1)) ∙ call .ensures .answer), call .ensures .left)
 
 same-length-2 : tie.Need-same-length-2
 same-length-2 c = search needs
@@ -33,8 +33,8 @@ returns-2 : tie.Need-returns-2
 returns-2 c =
     let call = c .before .before .before .before .before .before .pad in
     let reason = c .before .before .reason in (
-      c .number .ensures ∙ ap (λ (a : Answer). a .number) (ap paddedAnswer (sym (reason .given .1)) ∙ call .ensures .answer),
-      call .ensures .table,
+      c .number .ensures ∙ ap (λ (a : Answer). a .number) (ap completedAnswer (sym (reason .given .1)) ∙ call .ensures .answer),
+      call .ensures .left,
     )
 
 pub pad-spec : {M : Type 1} → statement M

@@ -9,7 +9,7 @@ use lib.ListN.{length, drop}
 use Rattle.words.specs.Answers.{Answer}
 use Rattle.xfield.specs.XFieldElements.{extOf}
 use Rattle.air.specs.Constraints.{consistencyConstraints}
-use Rattle.air.specs.Columns.{Row}
+use Rattle.table.specs.Columns.{Row}
 use Rattle.air.specs.Check.{AllZero, consistencyAt, firstIn, firstInRows}
 use Rattle.air.proofs.Lists.{consistency-length}
 use Rattle.air.proofs.Scan.{row-next, rows-done, values-zero}

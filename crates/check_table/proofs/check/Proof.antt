@@ -5,7 +5,7 @@ use mathlib.Core.Path.{_≡_, sym, _∙_}
 use native.Mathlib.Omega.{arith}
 use borrow.Author.Needs.{needs}
 use Rattle.air.specs.Check.{checkAll}
-use Rattle.air.proofs.Groups.{firstInGroups, groups-done}
+use Rattle.check_table.proofs.Groups.{firstInGroups, groups-done}
 use Rattle.air.proofs.Judging.{accepted}
 use Rattle.check_table.specs.declared.Verdict.the-variants.{Zero, Nonzero, Refused}
 use Rattle.check_table.proofs.Joined.{refused, not-refused, group-found, group-passed}

@@ -2,7 +2,7 @@
 use Prim.Native.Nat.{ℕ, _-_}
 use mathlib.Core.Path.{_≡_, refl, _∙_}
 use native.Mathlib.Omega.{arith}
-use Rattle.air.specs.Columns.{rowCount}
+use Rattle.table.specs.Columns.{rowCount}
 use Rattle.check_table.proofs.Groups.{initial-group, consistency-group, transition-group, terminal-group}
 use Rattle.check_table.proofs.search_group.Statement.{statement}
 use Rattle.check_table.proofs.search_group.Tie as tie

@@ -3,10 +3,10 @@ use mathlib.Core.Path.{refl, ap, _∙_}
 use borrow.Author.Tests.{eq-eqb, ne-eqb}
 use Rattle.xfield.specs.Extension.{addX, scaleX}
 use Rattle.xfield.specs.XFieldElements.{extOf}
-use Rattle.xfield.proofs.Inverses.{invX}
-use Rattle.air.specs.Columns.{rowAt}
-use Rattle.air.specs.Challenges.{rowDenominator}
-use Rattle.air.specs.RunningSum.{addSummand}
+use Rattle.xfield.specs.Inverses.{invX}
+use Rattle.table.specs.Columns.{rowAt}
+use Rattle.table.specs.Challenges.{rowDenominator}
+use Rattle.sums.specs.RunningSum.{addSummand}
 use Rattle.table.specs.Layouts.{rowOf, challengesIn}
 use borrow.Author.Needs.{needs}
 use Rattle.extend.proofs.add_row.Statement.{statement}

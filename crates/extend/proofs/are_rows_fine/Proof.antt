@@ -8,12 +8,13 @@ use borrow.Author.Needs.{needs}
 use borrow.Author.Tests.{not-false}
 use lib.ListN.{getD}
 use Rattle.field.specs.Elements.{p}
-use Rattle.air.specs.Columns.{mainWidth, rowCount}
-use Rattle.air.specs.RunningSum.{denominatorOk, denominatorsOk, summandAt}
-use Rattle.air.proofs.Rows.{all-reduced}
-use Rattle.air.proofs.ZeroDenominators.{denominators-more}
+use Rattle.table.specs.Columns.{mainWidth, rowCount}
+use Rattle.sums.specs.RunningSum.{denominatorOk, denominatorsOk}
+use Rattle.sums.specs.LookupSum.{summandAt}
+use Rattle.table.proofs.Rows.{all-reduced}
+use Rattle.sums.proofs.ZeroDenominators.{denominators-more}
 use Rattle.table.proofs.Tens.{ten-more}
-use Rattle.extend.proofs.Sums.{row-summand}
+use Rattle.sums.proofs.LookupSums.{row-summand}
 use Rattle.extend.proofs.are_rows_fine.Statement.{statement}
 use Rattle.extend.proofs.are_rows_fine.Tie as tie
 

@@ -3,10 +3,10 @@ use mathlib.Core.Path.{_≡_, refl, sym, ap, _∙_}
 use mathlib.Core.Bool.{not}
 use borrow.Author.Tests.{eq-eqb, ne-eqb}
 use Rattle.xfield.specs.Extension.{isZeroX}
-use Rattle.air.specs.Columns.{rowAt}
-use Rattle.air.specs.Challenges.{rowDenominator}
+use Rattle.table.specs.Columns.{rowAt}
+use Rattle.table.specs.Challenges.{rowDenominator}
 use Rattle.table.specs.Layouts.{challengesIn}
-use Rattle.air.specs.RunningSum.{denominatorOk}
+use Rattle.sums.specs.RunningSum.{denominatorOk}
 use borrow.Author.Needs.{needs}
 use Rattle.extend.proofs.denominator_ok.Statement.{statement}
 use Rattle.extend.proofs.denominator_ok.Tie as tie

@@ -6,10 +6,11 @@ use mathlib.Core.Bool.{true}
 use native.Mathlib.Omega.{arith}
 use borrow.Author.Needs.{needs}
 use borrow.Author.Tests.{not-true, not-false}
-use Rattle.air.specs.Columns.{rowCount}
-use Rattle.air.specs.RunningSum.{denominatorOk, denominatorsOk, summandAt}
-use Rattle.air.proofs.ZeroDenominators.{denominators-more, denominators-not-ok}
-use Rattle.extend.proofs.Sums.{row-summand}
+use Rattle.table.specs.Columns.{rowCount}
+use Rattle.sums.specs.RunningSum.{denominatorOk, denominatorsOk}
+use Rattle.sums.specs.LookupSum.{summandAt}
+use Rattle.sums.proofs.ZeroDenominators.{denominators-more, denominators-not-ok}
+use Rattle.sums.proofs.LookupSums.{row-summand}
 use Rattle.extend.proofs.denominators_ok.Statement.{statement}
 use Rattle.extend.proofs.denominators_ok.Tie as tie
 

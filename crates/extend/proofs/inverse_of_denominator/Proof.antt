@@ -1,7 +1,8 @@
 -- `extend::inverse_of_denominator` meets its contract: what is inverse-or-zero of the denominator is `invX` of it. Assumes nothing.
 use mathlib.Core.Path.{ap, _∙_}
 use borrow.Author.Needs.{needs}
-use Rattle.xfield.proofs.Inverses.{invX, invX-only}
+use Rattle.xfield.specs.Inverses.{invX}
+use Rattle.xfield.proofs.Inverses.{invX-only}
 use Rattle.extend.proofs.inverse_of_denominator.Statement.{statement}
 use Rattle.extend.proofs.inverse_of_denominator.Tie as tie
 

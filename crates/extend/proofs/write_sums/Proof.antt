@@ -7,10 +7,13 @@ use borrow.Author.Needs.{needs}
 use lib.ListN.{length}
 use lib.Seq.{sets}
 use Rattle.xfield.specs.XFieldElements.{extOf}
-use Rattle.air.specs.Columns.{rowCount}
-use Rattle.air.specs.RunningSum.{addSummand, summandAt, runningSum, lookupSum}
-use Rattle.fill.specs.Extending.{sumWords}
-use Rattle.extend.proofs.Sums.{row-summand, sum-turn, words-turn, all-words}
+use Rattle.table.specs.Columns.{rowCount}
+use Rattle.sums.specs.RunningSum.{addSummand, runningSum}
+use Rattle.sums.specs.LookupSum.{summandAt, lookupSum}
+use Rattle.sums.specs.RunningSum.{sumWords}
+use Rattle.sums.proofs.LookupSums.{row-summand}
+use Rattle.sums.proofs.RunningSums.{sum-turn}
+use Rattle.sums.proofs.SumWords.{words-turn, all-words}
 use Rattle.extend.proofs.write_sums.Statement.{statement}
 use Rattle.extend.proofs.write_sums.Tie as tie
 

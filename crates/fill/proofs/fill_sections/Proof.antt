@@ -16,16 +16,17 @@ use Rattle.isa.specs.declared.Admission.the-variants.{Admitted}
 use Rattle.isa.specs.Entries.{admit, height}
 use Rattle.isa.proofs.Entries.{height-bound}
 use Rattle.list.specs.Lists.{U32List, u32List, used, keyAt, entryAt, multiplicityAt, judgeList}
-use Rattle.list.specs.Heights.{sectionPlaces, listHeight}
+use Rattle.list.specs.Heights.{listHeight}
 use Rattle.list.proofs.JudgedLists.{list-admitted, admitted-told, refused-told, entry-admissible, every-place}
 use Rattle.list.proofs.JudgedLists.{heightTo, height-none, height-more, list-height}
-use Rattle.air.specs.Columns.{Row}
+use Rattle.table.specs.Columns.{mainWidth}
 use Rattle.fill_results.specs.declared.Choice.{Choice}
 use Rattle.fill_results.specs.declared.Choice.the-variants.{Unknown}
 use Rattle.fill.specs.declared.Filled.the-variants.{Rows}
-use Rattle.fill_sections.specs.Sections.{Section, section, topResult, tableWords, sectionWords}
-use Rattle.fill.specs.Filling.{joined, sectionsAt}
-use Rattle.fill.proofs.ListSections.{sectionAt, rowsTo, rows-none, section-at, room-at, words-turn, joined-rows}
+use Rattle.table.specs.RowWords.{tableWords}
+use Rattle.fill_sections.specs.Sections.{Section, section, topResult, sectionWords}
+use Rattle.fill.specs.Filling.{filled}
+use Rattle.fill.proofs.ListSections.{sectionAt, rowsTo, rows-none, section-at, room-at, words-turn}
 use Rattle.fill.proofs.fill_sections.Statement.{statement}
 use Rattle.fill.proofs.fill_sections.Tie as tie
 
@@ -48,8 +49,8 @@ all-rows : (l : U32List) (i row : ℕ) → i ≡ used l → row ≡ heightTo l i
 all-rows l i row e f = let d = list-height l in cc
 
 module _ (l : U32List) (fine : judgeList l ≡ Fine) where
-  section-fits : (i row n : ℕ) {x : U32TableEntry} → i < used l → x ≡ entryAt l i → row ≡ heightTo l i → 10 * listHeight l ≤ n
-      → (10 * (row + height x) ≤ n) × (height x ≤ 33)
+  section-fits : (i row n : ℕ) {x : U32TableEntry} → i < used l → x ≡ entryAt l i → row ≡ heightTo l i → mainWidth * listHeight l ≤ n
+      → (mainWidth * (row + height x) ≤ n) × (height x ≤ 33)
   section-fits i row n h e r room =
       let same = ap height e in
       (omega (arith, room-at l fine i h), omega (arith, height-bound (entryAt l i) (entry-admissible l fine i h)))
@@ -58,12 +59,10 @@ module _ (l : U32List) (fine : judgeList l ≡ Fine) where
   has-value : (i : ℕ) {s : Section} {answer : Choice} → i < used l → s ≡ sectionAt l i → answer ≡ topResult s → answer ≡ Unknown → ⊥
   has-value i h e f u = let k = section-at l fine i h .is in let z : _≡_ {A = ℕ} 0 1 = cc in omega arith
 
-  all-words : (before after : List ℕ) (i : ℕ) (rs : List Row) → i ≡ used l → after ≡ sets before 0 (tableWords (rowsTo l i))
-      → sectionsAt l (sectionPlaces l) ≡ joined rs → after ≡ sets before 0 (tableWords rs)
-  all-words before after i rs e f j =
-      let k = joined-rows l fine in
-      let same : rowsTo l i ≡ rs = rw e (cc) in
-      f ∙ ap (λ (q : List Row). sets before 0 (tableWords q)) same
+all-words : (l : U32List) (before after : List ℕ) (i : ℕ) → i ≡ used l → after ≡ sets before 0 (tableWords (rowsTo l i))
+    → after ≡ filled l before
+unfolding rowsTo
+all-words l before after i e f = f ∙ ap (λ (n : ℕ). sets before 0 (tableWords (rowsTo l n))) e
 
 abbrev Inv-loop : tie.InvT-loop
 Inv-loop sizes keys multiplicities table₀ inverses small row₀ place₀ table row place =
@@ -205,7 +204,7 @@ loop-again c =
     let l = u32List (s .args .sizes) (s .args .keys .now) (s .args .multiplicities .now) in
     let i = p .loop .inv in
     let x = at-place l _ (k .key-at .ensures _ _) (a .admit .ensures) (e .e .given .1) in
-    let same = ap (λ (y : U32TableEntry). sets (p .loop .table) (10 * p .loop .row) (sectionWords (section y (multiplicityAt l (p .loop .place))))) x in (
+    let same = ap (λ (y : U32TableEntry). sets (p .loop .table) (mainWidth * p .loop .row) (sectionWords (section y (multiplicityAt l (p .loop .place))))) x in (
       search needs,
       f .fill-entry .kept .0 ∙ i .1,
       rows-turn l _ (i .2) (c .table-height-contribution .ensures .0) x,
@@ -222,7 +221,7 @@ returns-3 c =
     let l = u32List (s .args .sizes) (s .args .keys .now) (s .args .multiplicities .now) in
     let i = p .loop .inv in
     let all : p .loop .place ≡ used l = omega arith in
-    (all-rows l _ _ all (i .2), λ rs e. all-words l (s .pre .0) (s .args .table .now) _ _ rs all (i .3) e)
+    (all-rows l _ _ all (i .2), all-words l (s .args .table .now) _ _ all (i .3))
 
 pub fill-sections-spec : {M : Type 1} → statement M
 fill-sections-spec =

@@ -1,6 +1,7 @@
 -- `fill::pad` meets its contract. The invariant: the table is the old one with the padding row put in from `filled` to `row`.
 -- Assumes nothing.
 use Prim.Native.Nat.{ℕ, _*_, _-_, _≤_}
+use mathlib.Core.Bool.{Bool}
 use mathlib.Core.Path.{_≡_, refl, sym, ap, _∙_}
 use mathlib.Core.List.{List}
 use native.Mathlib.Omega.{arith}
@@ -8,17 +9,23 @@ use lib.ListN.{length, replicate}
 use lib.Seq.{sets}
 use borrow.Author.Needs.{needs}
 use borrow.Author.Tests.{not-true, not-false}
-use Rattle.air.specs.Columns.{Row, rowCount, allReduced}
-use Rattle.fill_sections.specs.Sections.{rowWords, tableWords}
+use Rattle.table.specs.Columns.{Row, mainWidth, rowCount, allReduced}
+use Rattle.table.specs.Layouts.{rowOf}
+use Rattle.table.specs.RowWords.{rowWords, tableWords}
 use Rattle.fill.specs.Padding.{lastFilled, paddingRow}
 use Rattle.fill.proofs.Paddings.{pad-start, pad-turn, pad-shape, pad-short, pad-unreduced, pad-done}
 use Rattle.fill.proofs.pad.Statement.{statement}
 use Rattle.fill.proofs.pad.Tie as tie
 
+-- what is judged is the last filled row
+words-judged : {words : List ℕ} {made row : Row} {answer : Bool} → words ≡ rowWords made → made ≡ row → answer ≡ allReduced words
+    → answer ≡ allReduced (rowWords row)
+words-judged e f a = a ∙ ap allReduced (e ∙ ap (λ (r : Row). rowWords r) f)
+
 abbrev Inv-loop : tie.InvT-loop
 Inv-loop table₀ filled rows padding row₀ table row =
     (filled ≤ row) × (row ≤ rows) × (length table ≡ length table₀)
-    × ((r : Row) → padding ≡ rowWords r → table ≡ sets table₀ (10 * filled) (tableWords (replicate (row - filled) r)))
+    × (table ≡ sets table₀ (mainWidth * filled) (tableWords (replicate (row - filled) (rowOf padding))))
 
 abbrev μ-loop : tie.MeasureT-loop
 μ-loop table₀ filled rows padding row₀ table row = rows - row
@@ -44,6 +51,9 @@ returns-2 c =
 last-filled-requires : tie.Need-last-filled-requires Inv-loop μ-loop
 last-filled-requires c κs = search needs
 
+words-requires : tie.Need-words-requires Inv-loop μ-loop
+words-requires c κs = search needs
+
 slice-aggregate-all-reduced : tie.Need-slice-aggregate-all-reduced Inv-loop μ-loop
 slice-aggregate-all-reduced c = search needs
 
@@ -56,30 +66,29 @@ same-length-3 c = search needs
 returns-3 : tie.Need-returns-3 Inv-loop μ-loop
 returns-3 c =
     let a = c .before in
-    let l = a .before .before in
+    let w = a .before .before in
+    let l = w .before in
     let r = l .before .before in
     let t = r .before in
     let h = t .before in
-    let s = h .before .before .before in
-    pad-unreduced (s .args .table .now) (s .args .filled) (sym (h .has-shape .ensures) ∙ not-false _ (t .if1 .left)) (r .if2 .left)
-    (sym (ap allReduced (l .last-filled .ensures)) ∙ sym (a .all-reduced .ensures) ∙ not-true _ (c .if3 .taken))
+    pad-unreduced _ _ (sym (h .has-shape .ensures) ∙ not-false _ (t .if1 .left)) (r .if2 .left)
+    (sym (words-judged (w .words .ensures) (l .last-filled .ensures) (a .all-reduced .ensures)) ∙ not-true _ (c .if3 .taken))
 
 padding-row-requires : tie.Need-padding-row-requires Inv-loop μ-loop
 padding-row-requires c κs = search needs
 
 loop-holds : tie.Need-loop-holds Inv-loop μ-loop
 loop-holds c =
-    let s = c .before .before .before .before .before .before .before .before .before .before .before in
-    (search needs, search needs, refl, λ r e. pad-start (s .args .table .now) (s .args .filled) r)
+    let s = c .before .before .before .before .before .before .before .before .before .before .before .before in
+    (search needs, search needs, refl, pad-start (s .args .table .now) (s .args .filled) (rowOf (c .padding-row .result)))
 
-mul-put-row : tie.Need-mul-put-row Inv-loop μ-loop
-mul-put-row c = search needs
-
-put-row-requires : tie.Need-put-row-requires Inv-loop μ-loop
-put-row-requires c κs = search needs
+put-requires : tie.Need-put-requires Inv-loop μ-loop
+put-requires c κs = search needs
 
 add-row : tie.Need-add-row Inv-loop μ-loop
-add-row c = search needs
+add-row c =
+    let start = c .before .before .before .before .before .before .before .before .before .before .before .before .before .before .before .before .before .before in
+    omega arith
 
 loop-less : tie.Need-loop-less Inv-loop μ-loop
 loop-less c = search needs
@@ -91,10 +100,8 @@ loop-again c =
     let i = p .loop .inv in (
       search needs,
       search needs,
-      w .put-row .kept .0 ∙ i .2,
-      λ r e.
-          pad-turn _ (p .loop .table) _ _ (p .loop .row) r (i .0) (i .3 r e)
-          (w .put-row .ensures ∙ ap (λ (ws : List ℕ). sets (p .loop .table) (10 * p .loop .row) ws) e),
+      w .put .kept .1 .0 ∙ i .2,
+      pad-turn _ (p .loop .table) _ _ (p .loop .row) _ (i .0) (i .3) (w .put .ensures),
     )
 
 same-length-4 : tie.Need-same-length-4 Inv-loop μ-loop
@@ -106,7 +113,8 @@ returns-4 c =
     let q = p .before in
     let u = q .before in
     let a = u .before in
-    let l = a .before .before in
+    let w = a .before .before in
+    let l = w .before in
     let r = l .before .before in
     let t = r .before in
     let h = t .before in
@@ -114,9 +122,11 @@ returns-4 c =
     let old = s .args .table .now in
     let filled = s .args .filled in
     let all : p .loop .row ≡ rowCount old = omega arith in
-    pad-done old filled (sym (h .has-shape .ensures) ∙ not-false _ (t .if1 .left)) (r .if2 .left) (sym (ap allReduced (l .last-filled .ensures)) ∙ sym (a .all-reduced .ensures) ∙ not-false _ (u .if3 .left))
-    (rw (← all)
-    (p .loop .inv .3 (paddingRow (lastFilled old filled)) (q .padding-row .ensures (lastFilled old filled) (l .last-filled .ensures))))
+    let row : rowOf (q .padding-row .result) ≡ paddingRow (lastFilled old filled) =
+    q .padding-row .ensures ∙ ap paddingRow (l .last-filled .ensures) in
+    pad-done old filled (sym (h .has-shape .ensures) ∙ not-false _ (t .if1 .left)) (r .if2 .left)
+    (sym (words-judged (w .words .ensures) (l .last-filled .ensures) (a .all-reduced .ensures)) ∙ not-false _ (u .if3 .left))
+    (rw (← all, ← row) (p .loop .inv .3))
 
 pub pad-spec : {M : Type 1} → statement M
 pad-spec =
@@ -130,14 +140,14 @@ pad-spec =
     same-length-2
     returns-2
     last-filled-requires
+    words-requires
     slice-aggregate-all-reduced
     all-reduced-requires
     same-length-3
     returns-3
     padding-row-requires
     loop-holds
-    mul-put-row
-    put-row-requires
+    put-requires
     add-row
     loop-less
     loop-again

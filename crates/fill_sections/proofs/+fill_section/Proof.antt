@@ -1,11 +1,12 @@
 -- `fill_sections::fill_section` meets its contract; it is a cycle of calls by itself. The measure is the number of rows that are left, which is the
 -- bit length of the dominant operand and one more. Each way out is a lemma of proofs/PendingRows.antt. Assumes nothing.
 use Prim.Native.Nat.{ℕ, _<_}
-use mathlib.Core.Path.{sym, _∙_}
+use mathlib.Core.Path.{sym, ap, _∙_}
 use native.Mathlib.Omega.{arith}
 use borrow.Author.Needs.{needs}
 use borrow.Fn.Kinds.{In}
 use borrow.Fn.PlainCycle.{Measures, is, falls, and}
+use Rattle.fill_sections.specs.Sections.{Pending}
 use Rattle.fill_sections.specs.PendingRows.{rowsLeft}
 use Rattle.fill_sections.proofs.PendingRows.{left-at-least, left-below, both-clauses, end-filled, unknown-filled, row-filled}
 use Rattle.fill_sections.proofs.fill_section.Reads as fill-section
@@ -80,7 +81,7 @@ add-fill-section t c =
 next-requires : (t : ℕ) → lts.Need-next-requires (cs t) (at t) fill-section.Post
 next-requires t c κs =
     let s = c .before .before .before .before in
-    (omega (arith, s .pre .1 .1 .0, left-at-least (s .args .pending)), s .pre .1 .1 .3)
+    (omega (arith, s .pre .1 .1 .0, left-at-least (s .args .pending)), s .pre .1 .1 .1, s .pre .1 .1 .3)
 
 fill-section-requires : (t : ℕ) → lts.Need-fill-section-requires (cs t) (at t) fill-section.Post
 fill-section-requires t c κs =
@@ -89,9 +90,9 @@ fill-section-requires t c κs =
     let s = e .before .before in
     let n = c .next .ensures in
     let l = left-below (s .args .pending) (c .next .result) n (sym (e .is-end .ensures) ∙ i .if1 .left) in
-    let b = n .bits in (
+    let b = ap (λ (q : Pending). q .bits) (n .pending) in (
       omega (arith, s .pre .0),
-      (omega (arith, s .pre .1 .0), (omega (arith, s .pre .1 .1 .0), n .inverses (s .pre .1 .1 .1), s .pre .1 .1 .2, s .pre .1 .1 .3)),
+      (omega (arith, s .pre .1 .0), (omega (arith, s .pre .1 .1 .0), n .inverses, s .pre .1 .1 .2, s .pre .1 .1 .3)),
     )
 
 enum-known-below : (t : ℕ) → lts.Need-enum-known-below (cs t) (at t) fill-section.Post

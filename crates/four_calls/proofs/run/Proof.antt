@@ -47,7 +47,7 @@ returns : tie.Need-returns
 returns c =
     let fill = c .before .before .before .before .before .fill .ensures in
     let told = rw (c .before .reason .given .1) at fill in
-    fill-refused _ _ _ _ (c .before .reason .given .0 .0) _ (told .answer) (told .table)
+    fill-refused _ _ _ _ (c .before .reason .given .0 .0) _ (told .answer) (told .left)
 
 same-length-2 : tie.Need-same-length-2
 same-length-2 c = search needs
@@ -56,7 +56,7 @@ returns-2 : tie.Need-returns-2
 returns-2 c =
     let fill = rw (c .before .before .before .before .before .before .before .before .height .given .1) at (c .before .before .before .before .before .before .before .before .before .before .before .before .fill .ensures) in
     let pad = rw (c .before .reason2 .given .1) at (c .before .before .before .before .before .pad .ensures) in
-    pad-refused _ _ _ _ _ _ (fill .answer) (fill .table) (c .before .reason2 .given .0 .0) _ (pad .answer) (pad .table)
+    pad-refused _ _ _ _ _ _ (fill .answer) (fill .left) (c .before .reason2 .given .0 .0) _ (pad .answer) (pad .left)
 
 same-length-3 : tie.Need-same-length-3
 same-length-3 c = search needs
@@ -69,7 +69,7 @@ returns-3 c =
     let fill = rw (c .before .before .before .before .before .before .before .before .before .before .before .before .before .before .before .height .given .1) at (c .before .before .before .before .before .before .before .before .before .before .before .before .before .before .before .before .before .before .before .fill .ensures) in
     let pad = rw (c .before .before .before .before .before .before .before .before .enum-told .given .1) at (c .before .before .before .before .before .before .before .before .before .before .before .before .pad .ensures) in
     let extend = rw (c .before .reason3 .given .1) at (c .before .before .before .before .before .extend .ensures) in
-    extend-refused _ _ _ _ _ _ (fill .answer) (fill .table) _ (pad .answer) (pad .table) (c .before .reason3 .given .0 .0) _ (extend .answer) (extend .aux)
+    extend-refused _ _ _ _ _ _ (fill .answer) (fill .left) _ (pad .answer) (pad .left) (c .before .reason3 .given .0 .0) _ (extend .answer) (extend .left)
 
 same-length-5 : tie.Need-same-length-5
 same-length-5 c = search needs
@@ -82,7 +82,7 @@ returns-4 c =
     let fill = rw (c .before .before .before .before .before .before .before .before .before .before .before .before .before .before .before .before .before .height .given .1) at (c .before .before .before .before .before .before .before .before .before .before .before .before .before .before .before .before .before .before .before .before .before .fill .ensures) in
     let pad = rw (c .before .before .before .before .before .before .before .before .before .before .enum-told .given .1) at (c .before .before .before .before .before .before .before .before .before .before .before .before .before .before .pad .ensures) in
     let extend = rw (c .before .before .before .enum-told2 .given .1) at (c .before .before .before .before .before .before .before .extend .ensures) in
-    checked _ _ _ _ _ _ (fill .answer) (fill .table) _ (pad .answer) (pad .table) _ _ _ (extend .answer) (extend .aux) (c .check .ensures .0)
+    checked _ _ _ _ _ _ (fill .answer) (fill .left) _ (pad .answer) (pad .left) _ _ _ (extend .answer) (extend .left) (c .check .ensures .0)
 
 pub run-spec : {M : Type 1} → statement M
 run-spec =

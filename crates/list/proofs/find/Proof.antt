@@ -16,7 +16,7 @@ use Rattle.list.proofs.Finding.{find-hit, find-miss, find-none, find-ei
 use Rattle.list.proofs.find.Statement.{statement}
 use Rattle.list.proofs.find.Tie as tie
 
--- what `key_at` and `same_key` tell of the key at a place
+-- what `entry_at` and `same_key` tell of the key at a place
 told : {a b : U32TableEntry} (k : U32TableEntry) {r t : Bool} → a ≡ b → r ≡ sameKey a k → r ≡ t → sameKey b k ≡ t
 told k e f g = cc
 
@@ -66,8 +66,8 @@ mul-i c = omega arith
 loop2-holds : tie.Need-loop2-holds Inv-loop μ-loop Inv-loop2 μ-loop2
 loop2-holds c = (omega arith, c .before .loop .inv .1)
 
-key-at-requires : tie.Need-key-at-requires Inv-loop μ-loop Inv-loop2 μ-loop2
-key-at-requires c κs = omega arith
+entry-at-requires : tie.Need-entry-at-requires Inv-loop μ-loop Inv-loop2 μ-loop2
+entry-at-requires c κs = omega arith
 
 same-key-requires : tie.Need-same-key-requires Inv-loop μ-loop Inv-loop2 μ-loop2
 same-key-requires c κs = search needs
@@ -77,7 +77,7 @@ returns c =
     λ s ms.
     sym
     (c .before .before .before .before .loop2 .inv .1 s ms
-    ∙ find-hit _ _ _ _ (search needs) (told _ (c .before .before .key-at .ensures s ms) (c .before .same-key .ensures) (c .if2 .taken)))
+    ∙ find-hit _ _ _ _ (search needs) (told _ (c .before .before .entry-at .ensures s ms) (c .before .same-key .ensures) (c .if2 .taken)))
 
 add-i : tie.Need-add-i Inv-loop μ-loop Inv-loop2 μ-loop2
 add-i c = search needs
@@ -90,7 +90,7 @@ loop2-again c = (
   search needs,
   λ s ms.
       c .before .before .before .before .loop2 .inv .1 s ms
-      ∙ find-miss _ _ _ _ (search needs) (told _ (c .before .before .key-at .ensures s ms) (c .before .same-key .ensures) (c .if2 .left)),
+      ∙ find-miss _ _ _ _ (search needs) (told _ (c .before .before .entry-at .ensures s ms) (c .before .same-key .ensures) (c .if2 .left)),
 )
 
 returns-2 : tie.Need-returns-2 Inv-loop μ-loop Inv-loop2 μ-loop2
@@ -112,7 +112,7 @@ find-spec =
     loop-again
     mul-i
     loop2-holds
-    key-at-requires
+    entry-at-requires
     same-key-requires
     returns
     add-i

@@ -8,6 +8,7 @@ use lib.ListN.{length}
 use Rattle.words.specs.Limits.{maxPlaces}
 use Rattle.words.specs.declared.Judgement.the-variants.{Fine, Declined}
 use Rattle.words.specs.declared.Refusal.the-variants.{Shape}
+use Rattle.isa.specs.Entries.{entryWidth}
 use Rattle.list.specs.Lists.{U32List, capacity, used, listShape}
 use Rattle.list.proofs.list_shape.Statement.{statement}
 use Rattle.list.proofs.list_shape.Tie as tie
@@ -23,11 +24,11 @@ module _ (l : U32List) where
     too-many-used u = simp (le-ltb maxPlaces (capacity l) small, lt-ltb (capacity l) (used l) u)
 
     module _ (within : used l ≤ capacity l) where
-      other-keys : (length (l .keys) ≡ 3 * capacity l → ⊥) → listShape l ≡ Declined Shape
+      other-keys : (length (l .keys) ≡ entryWidth * capacity l → ⊥) → listShape l ≡ Declined Shape
       unfolding listShape
       other-keys k = simp (le-ltb maxPlaces (capacity l) small, le-ltb (capacity l) (used l) within, ne-eqb _ _ k)
 
-      module _ (keys : length (l .keys) ≡ 3 * capacity l) where
+      module _ (keys : length (l .keys) ≡ entryWidth * capacity l) where
         other-multiplicities : (length (l .multiplicities) ≡ capacity l → ⊥) → listShape l ≡ Declined Shape
         unfolding listShape
         other-multiplicities m =

@@ -6,7 +6,7 @@ use native.Mathlib.Omega.{arith}
 use borrow.Author.Needs.{needs}
 use lib.ListN.{set, length-set}
 use lib.Seq.{sets}
-use Rattle.isa.specs.Entries.{lhs, rhs}
+use Rattle.isa.specs.Entries.{lhs, rhs, entryWidth}
 use Rattle.list.proofs.put_key.Statement.{statement}
 use Rattle.list.proofs.put_key.Tie as tie
 
@@ -48,7 +48,7 @@ same-length c = search needs
 
 returns : tie.Need-returns
 returns c =
-    three-stores (c .args .keys .now) (3 * c .args .i) (c .args .key .opcode) (lhs (c .args .key)) (rhs (c .args .key))
+    three-stores (c .args .keys .now) (entryWidth * c .args .i) (c .args .key .opcode) (lhs (c .args .key)) (rhs (c .args .key))
 
 pub put-key-spec : {M : Type 1} → statement M
 put-key-spec =

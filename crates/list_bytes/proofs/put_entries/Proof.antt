@@ -7,13 +7,12 @@ use native.Mathlib.Nat.{sub-zero, add-zero}
 use borrow.Author.Needs.{needs}
 use lib.ListN.{length}
 use lib.Seq.{sets}
+use Rattle.words.specs.Places.{placesFrom, places}
+use Rattle.words.proofs.Places.{flat-turn, flat-done}
 use Rattle.isa.specs.declared.U32TableEntry.{U32TableEntry}
-use Rattle.isa.specs.Entries.{admitted}
 use Rattle.list.specs.declared.Sizes.{Sizes}
 use Rattle.list.specs.Lists.{u32List, entryAt}
-use Rattle.list.specs.Places.{placesFrom, places}
-use Rattle.list_bytes.specs.Packed.{keyBytes}
-use Rattle.list_bytes.proofs.Places.{flat-turn, flat-done}
+use Rattle.list_bytes.specs.Packed.{keyWidth, keyBytes}
 use Rattle.list_bytes.proofs.Format.{length-key}
 use Rattle.list_bytes.proofs.put_entries.Statement.{statement}
 use Rattle.list_bytes.proofs.put_entries.Tie as tie
@@ -26,7 +25,7 @@ abbrev Inv-loop : tie.InvT-loop
 Inv-loop keys n out₀ at i₀ out i =
     (i ≤ n) × (length out ≡ length out₀)
     × ((s : Sizes) (ms : List ℕ) → sets out₀ at (flatMap (block keys s ms) (places n))
-    ≡ sets out (at + 17 * i) (flatMap (block keys s ms) (placesFrom i (n - i))))
+    ≡ sets out (at + keyWidth * i) (flatMap (block keys s ms) (placesFrom i (n - i))))
 
 abbrev μ-loop : tie.MeasureT-loop
 μ-loop keys n out₀ at i₀ out i = n - i
@@ -40,8 +39,8 @@ mul-put-entry c = search needs
 add-put-entry : tie.Need-add-put-entry Inv-loop μ-loop
 add-put-entry c = search needs
 
-key-at-requires : tie.Need-key-at-requires Inv-loop μ-loop
-key-at-requires c κs = search needs
+entry-at-requires : tie.Need-entry-at-requires Inv-loop μ-loop
+entry-at-requires c κs = search needs
 
 put-entry-requires : tie.Need-put-entry-requires Inv-loop μ-loop
 put-entry-requires c κs = search needs
@@ -53,12 +52,11 @@ loop-less : tie.Need-loop-less Inv-loop μ-loop
 loop-less c = search needs
 
 loop-again : tie.Need-loop-again Inv-loop μ-loop
-unfolding entryAt admitted
 loop-again c =
     let args = c .before .before .before .before .before .before .before .before .before .args in
     let loop = c .before .before .before .before .before .before .loop in
     let loop-test = c .before .before .before .before .before .loop-test in
-    let key-at = c .before .before .before .key-at in
+    let entry-at = c .before .before .before .entry-at in
     let put-entry = c .before .before .put-entry in
     let i = loop .i in
     let out = loop .out in
@@ -67,8 +65,8 @@ loop-again c =
       put-entry .kept .0 ∙ loop .inv .1,
       λ s ms.
           loop .inv .2 s ms
-          ∙ flat-turn (block ks s ms) 17 (args .at) i (args .n) out (put-entry .last .0) (loop-test .taken) (length-key (entryAt (u32List s ks ms) i))
-          (put-entry .ensures ∙ ap (λ (e : U32TableEntry). sets out (args .at + 17 * i) (keyBytes e)) (key-at .ensures s ms)),
+          ∙ flat-turn (block ks s ms) keyWidth (args .at) i (args .n) out (put-entry .last .0) (loop-test .taken) (length-key (entryAt (u32List s ks ms) i))
+          (put-entry .ensures ∙ ap (λ (e : U32TableEntry). sets out (args .at + keyWidth * i) (keyBytes e)) (entry-at .ensures s ms)),
     )
 
 same-length : tie.Need-same-length Inv-loop μ-loop
@@ -80,7 +78,7 @@ returns c =
     λ s ms.
     let i = c .before .loop .i in
     sym (c .before .loop .inv .2 s ms
-    ∙ ap (sets (c .before .loop .out) (args .at + 17 * i)) (flat-done (block (args .keys .now) s ms) i (args .n) (c .loop-test .left)))
+    ∙ ap (sets (c .before .loop .out) (args .at + keyWidth * i)) (flat-done (block (args .keys .now) s ms) i (args .n) (c .loop-test .left)))
 
 pub put-entries-spec : {M : Type 1} → statement M
 put-entries-spec =
@@ -91,7 +89,7 @@ put-entries-spec =
     loop-holds
     mul-put-entry
     add-put-entry
-    key-at-requires
+    entry-at-requires
     put-entry-requires
     add-i
     loop-less

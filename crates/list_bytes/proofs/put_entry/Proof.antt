@@ -8,7 +8,7 @@ use Rattle.words.specs.LittleEndian.{le}
 use Rattle.words.proofs.LittleEndian.{length-le}
 use Rattle.words.proofs.Sets.{sets-then}
 use Rattle.isa.specs.Entries.{lhs, rhs}
-use Rattle.list_bytes.specs.Packed.{keyBytes}
+use Rattle.list_bytes.specs.Packed.{opcodeWidth, operandWidth, keyBytes}
 use Rattle.list_bytes.proofs.put_entry.Statement.{statement}
 use Rattle.list_bytes.proofs.put_entry.Tie as tie
 
@@ -23,6 +23,9 @@ put-le-requires-2 c κs = search needs
 
 add-put-le-2 : tie.Need-add-put-le-2
 add-put-le-2 c = search needs
+
+add-put-le-3 : tie.Need-add-put-le-3
+add-put-le-3 c = search needs
 
 put-le-requires-3 : tie.Need-put-le-requires-3
 put-le-requires-3 c κs = search needs
@@ -39,12 +42,14 @@ returns c =
     let at = args .at in
     let e = args .e in
     let d = args .out .now in
-    let l1 = length-le 1 (e .opcode) in
-    let l2 = length-le 8 (lhs e) in
+    let l1 = length-le opcodeWidth (e .opcode) in
+    let l2 = length-le operandWidth (lhs e) in
     c .before .before .put-le3 .ensures
     ∙ sym
-    (sets-then (le 1 (e .opcode)) (le 8 (lhs e) ++ le 8 (rhs e)) d (put-le .last .0) at (at + 1) (put-le .ensures) (omega arith)
-    ∙ sets-then (le 8 (lhs e)) (le 8 (rhs e)) (put-le .last .0) (put-le2 .last .0) (at + 1) (at + 9) (put-le2 .ensures) (omega arith))
+    (sets-then (le opcodeWidth (e .opcode)) (le operandWidth (lhs e) ++ le operandWidth (rhs e)) d (put-le .last .0)
+    at (at + opcodeWidth) (put-le .ensures) (omega arith)
+    ∙ sets-then (le operandWidth (lhs e)) (le operandWidth (rhs e)) (put-le .last .0) (put-le2 .last .0)
+    (at + opcodeWidth) (at + opcodeWidth + operandWidth) (put-le2 .ensures) (omega arith))
 
 pub put-entry-spec : {M : Type 1} → statement M
 put-entry-spec =
@@ -54,6 +59,7 @@ put-entry-spec =
     add-put-le
     put-le-requires-2
     add-put-le-2
+    add-put-le-3
     put-le-requires-3
     same-length
     returns)

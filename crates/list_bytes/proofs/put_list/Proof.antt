@@ -1,12 +1,11 @@
 -- `list_bytes::put_list` meets its contract: the four parts of the stored form, stored one after the other. Assumes nothing.
-use Prim.Native.Nat.{ℕ, _*_}
+use Prim.Native.Nat.{_*_}
 use mathlib.Core.Path.{sym, ap, _∙_}
 use borrow.Author.Needs.{needs}
 use lib.Seq.{sets}
-use Rattle.words.specs.LittleEndian.{le}
 use Rattle.list.specs.Lists.{u32List, entryAt, multiplicityAt}
-use Rattle.list.specs.Heights.{listHeight}
-use Rattle.list_bytes.proofs.Format.{keysForm, countsForm, stored-formed, length-keys, put-form}
+use Rattle.list_bytes.specs.Packed.{keyWidth, multiplicityWidth}
+use Rattle.list_bytes.proofs.Format.{keysForm, countsForm, bytes-formed, length-keys, put-form}
 use Rattle.list_bytes.proofs.put_list.Statement.{statement}
 use Rattle.list_bytes.proofs.put_list.Tie as tie
 
@@ -38,20 +37,19 @@ returns c =
     let put-le2 = c .before .before .before .before .before .before .before .before .before .before .put-le2 in
     let put-entries = c .before .before .before .before .before .before .put-entries in
     let put-multiplicities = c .before .before .put-multiplicities in
-    λ e.
     let z = args .sizes in
     let ks = args .keys .now in
     let ms = args .multiplicities .now in
     let l = u32List z ks ms in
     let n = z .used in
-    put-form n (listHeight l) (17 * n) (keysForm (entryAt l) n) (countsForm 8 (multiplicityAt l) n)
+    put-form n (args .height) (keyWidth * n) (keysForm (entryAt l) n) (countsForm multiplicityWidth (multiplicityAt l) n)
     (args .out .now) (put-le .last .0) (put-le2 .last .0) (put-entries .last .1 .1 .0) (put-multiplicities .last .1 .1 .0)
     (length-keys (entryAt l) n)
     (put-le .ensures)
-    (put-le2 .ensures ∙ ap (λ (h : ℕ). sets (put-le .last .0) 4 (le 4 h)) e)
+    (put-le2 .ensures)
     (put-entries .ensures z ms)
     (put-multiplicities .ensures z ks)
-    ∙ ap (sets (args .out .now) 0) (sym (stored-formed l))
+    ∙ ap (sets (args .out .now) 0) (sym (bytes-formed (args .height) l))
 
 pub put-list-spec : {M : Type 1} → statement M
 put-list-spec =

@@ -8,23 +8,24 @@ use borrow.Author.Needs.{needs}
 use lib.ListN.{length}
 use lib.Seq.{sets}
 use Rattle.words.specs.LittleEndian.{le}
+use Rattle.words.specs.Places.{placesFrom, places}
 use Rattle.words.proofs.LittleEndian.{length-le}
+use Rattle.words.proofs.Places.{flat-turn, flat-done}
 use Rattle.list.specs.declared.Sizes.{Sizes}
 use Rattle.list.specs.Lists.{u32List, multiplicityAt}
-use Rattle.list.specs.Places.{placesFrom, places}
-use Rattle.list_bytes.proofs.Places.{flat-turn, flat-done}
+use Rattle.list_bytes.specs.Packed.{multiplicityWidth}
 use Rattle.list_bytes.proofs.put_multiplicities.Statement.{statement}
 use Rattle.list_bytes.proofs.put_multiplicities.Tie as tie
 
 -- the bytes of the multiplicity at place i
 abbrev block : List ℕ → Sizes → List ℕ → ℕ → List ℕ
-block multiplicities s ks i = le 8 (multiplicityAt (u32List s ks multiplicities) i)
+block multiplicities s ks i = le multiplicityWidth (multiplicityAt (u32List s ks multiplicities) i)
 
 abbrev Inv-loop : tie.InvT-loop
 Inv-loop multiplicities n out₀ at i₀ out i =
     (i ≤ n) × (length out ≡ length out₀)
     × ((s : Sizes) (ks : List ℕ) → sets out₀ at (flatMap (block multiplicities s ks) (places n))
-    ≡ sets out (at + 8 * i) (flatMap (block multiplicities s ks) (placesFrom i (n - i))))
+    ≡ sets out (at + multiplicityWidth * i) (flatMap (block multiplicities s ks) (placesFrom i (n - i))))
 
 abbrev μ-loop : tie.MeasureT-loop
 μ-loop multiplicities n out₀ at i₀ out i = n - i
@@ -67,8 +68,8 @@ loop-again c =
       put-le .kept .0 ∙ loop .inv .1,
       λ s ks.
           loop .inv .2 s ks
-          ∙ flat-turn (block ms s ks) 8 (args .at) i (args .n) out (put-le .last .0) (loop-test .taken)
-          (length-le 8 (multiplicityAt (u32List s ks ms) i)) (put-le .ensures),
+          ∙ flat-turn (block ms s ks) multiplicityWidth (args .at) i (args .n) out (put-le .last .0) (loop-test .taken)
+          (length-le multiplicityWidth (multiplicityAt (u32List s ks ms) i)) (put-le .ensures),
     )
 
 same-length : tie.Need-same-length Inv-loop μ-loop
@@ -80,7 +81,7 @@ returns c =
     λ s ks.
     let i = c .before .loop .i in
     sym (c .before .loop .inv .2 s ks
-    ∙ ap (sets (c .before .loop .out) (args .at + 8 * i)) (flat-done (block (args .multiplicities .now) s ks) i (args .n) (c .loop-test .left)))
+    ∙ ap (sets (c .before .loop .out) (args .at + multiplicityWidth * i)) (flat-done (block (args .multiplicities .now) s ks) i (args .n) (c .loop-test .left)))
 
 pub put-multiplicities-spec : {M : Type 1} → statement M
 put-multiplicities-spec =

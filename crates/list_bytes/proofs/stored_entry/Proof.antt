@@ -1,9 +1,5 @@
 -- `list_bytes::stored_entry` meets its contract: the three words are read at the entry's offsets. Assumes nothing.
-use Prim.Native.Nat.{ℕ, _+_, _*_}
-use mathlib.Core.Path.{_≡_, ap, _∙_}
-use native.Mathlib.Omega.{arith}
 use borrow.Author.Needs.{needs}
-use Rattle.words.specs.LittleEndian.{leAt}
 use Rattle.isa.proofs.Comparing.{entries-same}
 use Rattle.list_bytes.specs.Packed.{storedEntry}
 use Rattle.list_bytes.proofs.stored_entry.Statement.{statement}
@@ -27,21 +23,15 @@ word-at-requires c κs = search needs
 add-word-at-2 : tie.Need-add-word-at-2
 add-word-at-2 c = search needs
 
+add-word-at-3 : tie.Need-add-word-at-3
+add-word-at-3 c = search needs
+
 word-at-requires-2 : tie.Need-word-at-requires-2
 word-at-requires-2 c κs = search needs
 
 returns : tie.Need-returns
 unfolding storedEntry
-returns c =
-    let args = c .before .before .before .before .args in
-    let s = (args .bytes .now) in
-    let i = args .i in
-    let e : 8 + 17 * i + 1 ≡ 9 + 17 * i = omega arith in
-    let f : 8 + 17 * i + 9 ≡ 17 + 17 * i = omega arith in
-    entries-same
-    (c .before .before .byte-at .ensures .0)
-    (c .before .word-at .ensures ∙ ap (λ (a : ℕ). leAt s a 8) e)
-    (c .word-at2 .ensures ∙ ap (λ (a : ℕ). leAt s a 8) f)
+returns c = entries-same (c .before .before .byte-at .ensures .0) (c .before .word-at .ensures) (c .word-at2 .ensures)
 
 pub stored-entry-spec : {M : Type 1} → statement M
 stored-entry-spec =
@@ -53,5 +43,6 @@ stored-entry-spec =
     add-word-at
     word-at-requires
     add-word-at-2
+    add-word-at-3
     word-at-requires-2
     returns)

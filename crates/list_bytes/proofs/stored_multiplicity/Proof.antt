@@ -6,25 +6,30 @@ use native.Mathlib.Omega.{arith}
 use borrow.Author.Needs.{needs}
 use lib.ListN.{length}
 use Rattle.words.specs.LittleEndian.{leAt}
-use Rattle.list_bytes.specs.Packed.{lengthWith, widthOf, storedN, storedMultiplicity}
+use Rattle.list_bytes.specs.Packed.{keysEnd, multiplicityWidth, oldMultiplicityWidth, lengthWith, oldLength, widthOf, storedN, storedMultiplicity}
 use Rattle.list_bytes.proofs.Format.{width-old, width-other}
 use Rattle.list_bytes.proofs.stored_multiplicity.Statement.{statement}
 use Rattle.list_bytes.proofs.stored_multiplicity.Tie as tie
 
-module _ (s : List ℕ) (n : ℕ) where
-  new-width : n ≡ storedN s → (length s ≡ 8 + 17 * n + 4 * n → ⊥) → widthOf s ≡ 8
-  new-width e f = width-other s (λ l. f (l ∙ subst (λ (k : ℕ). 8 + (17 * k + 4 * k) ≡ 8 + 17 * n + 4 * n) e (omega arith)))
+-- the length of an old list, as the code adds it up
+abbrev oldEnd : ℕ → ℕ
+oldEnd n = keysEnd n + oldMultiplicityWidth * n
 
-  at-width : (w i : ℕ) → n ≡ storedN s → widthOf s ≡ w → leAt s (8 + 17 * n + w * i) w ≡ storedMultiplicity s i
+module _ (s : List ℕ) (n : ℕ) where
+  new-width : n ≡ storedN s → (length s ≡ oldEnd n → ⊥) → widthOf s ≡ multiplicityWidth
+  new-width e f = width-other s (λ l. f (l ∙ subst (λ (k : ℕ). oldLength k ≡ oldEnd n) e (omega arith)))
+
+  at-width : (w i : ℕ) → n ≡ storedN s → widthOf s ≡ w → leAt s (keysEnd n + w * i) w ≡ storedMultiplicity s i
   unfolding storedMultiplicity
   at-width w i e h = rw (e, h)
 
-  old-at : (i : ℕ) → n ≡ storedN s → length s ≡ 8 + 17 * n + 4 * n → leAt s (8 + 17 * n + 4 * i) 4 ≡ storedMultiplicity s i
-  old-at i e l =
-      at-width 4 i e (width-old s (l ∙ subst (λ (k : ℕ). 8 + 17 * n + 4 * n ≡ 8 + (17 * k + 4 * k)) e (omega arith)))
+  old-at : (i : ℕ) → n ≡ storedN s → length s ≡ oldEnd n
+      → leAt s (keysEnd n + oldMultiplicityWidth * i) oldMultiplicityWidth ≡ storedMultiplicity s i
+  old-at i e l = at-width oldMultiplicityWidth i e (width-old s (l ∙ subst (λ (k : ℕ). oldEnd n ≡ oldLength k) e (omega arith)))
 
-  new-at : (i : ℕ) → n ≡ storedN s → (length s ≡ 8 + 17 * n + 4 * n → ⊥) → leAt s (8 + 17 * n + 8 * i) 8 ≡ storedMultiplicity s i
-  new-at i e f = at-width 8 i e (new-width e f)
+  new-at : (i : ℕ) → n ≡ storedN s → (length s ≡ oldEnd n → ⊥)
+      → leAt s (keysEnd n + multiplicityWidth * i) multiplicityWidth ≡ storedMultiplicity s i
+  new-at i e f = at-width multiplicityWidth i e (new-width e f)
 
 mul-at : tie.Need-mul-at
 mul-at c = search needs

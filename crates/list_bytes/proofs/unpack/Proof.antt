@@ -7,17 +7,18 @@ use native.Mathlib.Nat.{sub-zero, zero-add}
 use borrow.Author.Needs.{needs}
 use lib.ListN.{length, length-set}
 use lib.Seq.{sets}
-use Rattle.list.specs.Places.{placesFrom, places}
-use Rattle.list_bytes.specs.Packed.{keyWords, storedEntry, storedMultiplicity}
-use Rattle.list_bytes.proofs.Places.{flat-turn, flat-done, map-turn, places-done}
+use Rattle.words.specs.Places.{placesFrom, places}
+use Rattle.words.proofs.Places.{flat-turn, flat-done, map-turn, places-done}
+use Rattle.isa.specs.Entries.{entryWords, entryWidth}
+use Rattle.list_bytes.specs.Packed.{storedEntry, storedMultiplicity}
 use Rattle.list_bytes.proofs.unpack.Statement.{statement}
 use Rattle.list_bytes.proofs.unpack.Tie as tie
 
 abbrev Inv-loop : tie.InvT-loop
 Inv-loop bytes n keys₀ multiplicities₀ i₀ keys multiplicities i =
     (i ≤ n) × (length keys ≡ length keys₀) × (length multiplicities ≡ length multiplicities₀)
-    × (sets keys₀ 0 (flatMap (λ i. keyWords (storedEntry bytes i)) (places n))
-    ≡ sets keys (0 + 3 * i) (flatMap (λ i. keyWords (storedEntry bytes i)) (placesFrom i (n - i))))
+    × (sets keys₀ 0 (flatMap (λ i. entryWords (storedEntry bytes i)) (places n))
+    ≡ sets keys (0 + entryWidth * i) (flatMap (λ i. entryWords (storedEntry bytes i)) (placesFrom i (n - i))))
     × (sets multiplicities₀ 0 (map (storedMultiplicity bytes) (places n))
     ≡ sets multiplicities i (map (storedMultiplicity bytes) (placesFrom i (n - i))))
 
@@ -64,7 +65,7 @@ loop-again c =
       put-key .kept .0 ∙ loop .inv .1,
       simp length-set (search needs),
       loop .inv .3
-          ∙ flat-turn (λ i. keyWords (storedEntry s i)) 3 0 i n ks (put-key .last .0) less refl
+          ∙ flat-turn (λ i. entryWords (storedEntry s i)) entryWidth 0 i n ks (put-key .last .0) less refl
           (put-key .ensures ∙ rw (zero-add, stored-entry .ensures)),
       loop .inv .4 ∙ map-turn (storedMultiplicity s) i n (c .stored-multiplicity .result) (loop .multiplicities) less (c .stored-multiplicity .ensures),
     )
@@ -82,7 +83,7 @@ returns c =
     let n = args .n in
     let i = c .before .loop .i in
     let done : n ≤ i = c .loop-test .left in (
-      sym (c .before .loop .inv .3 ∙ ap (sets (c .before .loop .keys) (0 + 3 * i)) (flat-done (λ i. keyWords (storedEntry s i)) i n done)),
+      sym (c .before .loop .inv .3 ∙ ap (sets (c .before .loop .keys) (0 + entryWidth * i)) (flat-done (λ i. entryWords (storedEntry s i)) i n done)),
       sym (c .before .loop .inv .4 ∙ ap (λ (is : List ℕ). sets (c .before .loop .multiplicities) i (map (storedMultiplicity s) is)) (places-done i n done)),
     )
 

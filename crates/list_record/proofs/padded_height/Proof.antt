@@ -4,7 +4,7 @@ use Prim.Native.Nat.{_≤_, _-_}
 use mathlib.Core.Path.{_≡_, refl, sym, _∙_}
 use native.Mathlib.Omega.{arith}
 use borrow.Author.Needs.{needs}
-use Rattle.list_record.specs.Heights.{doubledTo, paddedHeight}
+use Rattle.list_record.specs.Plan.{doubledTo, paddedHeight}
 use Rattle.list_record.proofs.PaddedHeight.{doubled-once, doubled-stops}
 use Rattle.list_record.proofs.padded_height.Statement.{statement}
 use Rattle.list_record.proofs.padded_height.Tie as tie

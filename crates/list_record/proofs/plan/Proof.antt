@@ -6,10 +6,11 @@ use native.Mathlib.Omega.{arith}
 use borrow.Author.Needs.{needs}
 use Rattle.words.specs.Answers.{done, declined}
 use Rattle.words.specs.declared.Refusal.{Refusal}
+use Rattle.words.proofs.Outcomes.{answered-fine, answered-declined}
 use Rattle.list.specs.declared.Judged.the-variants.{Height, Refused}
 use Rattle.list.specs.Lists.{U32List}
-use Rattle.list.specs.Heights.{judgedList}
-use Rattle.list_record.specs.Heights.{paddedHeight, planAll}
+use Rattle.list.specs.Heights.{listHeight, judgedList}
+use Rattle.list_record.specs.Plan.{paddedHeight, planAll}
 use Rattle.list.proofs.JudgedLists.{judged-height, judged-refused, list-height-small}
 use Rattle.list_record.proofs.plan.Statement.{statement}
 use Rattle.list_record.proofs.plan.Tie as tie
@@ -17,14 +18,15 @@ use Rattle.list_record.proofs.plan.Tie as tie
 planned : (l : U32List) {h padded : ℕ}
     → Height h ≡ judgedList l → (h ≤ 2 ^ 63 → padded ≡ paddedHeight h) → done (h ∷ padded ∷ []) ≡ planAll l
 unfolding planAll
-planned l {h} e f =
+planned l {h} {padded} e f =
     let j = judged-height l h e in
     let p = f (omega (arith, j .1, list-height-small l (j .0))) in
-    rw (j .0) (cc)
+    let q : done (h ∷ padded ∷ []) ≡ done (listHeight l ∷ paddedHeight (listHeight l) ∷ []) = cc in
+    q ∙ sym (answered-fine _ (j .0))
 
 refused : (l : U32List) {k : Refusal} → Refused k ≡ judgedList l → declined k ≡ planAll l
 unfolding planAll
-refused l {k} e = rw (judged-refused l k e)
+refused l {k} e = sym (answered-declined _ (judged-refused l k e))
 
 judge-list-requires : tie.Need-judge-list-requires
 judge-list-requires c κs = search needs

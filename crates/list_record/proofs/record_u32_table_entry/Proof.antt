@@ -51,7 +51,8 @@ use Rattle.list_record.specs.declared.Recorded.{Recorded}
 use Rattle.list_record.specs.declared.Recording.{Recording}
 use Rattle.isa.specs.Entries.{entry}
 use Rattle.list.specs.Lists.{u32List}
-use Rattle.list_record.specs.Recording.{recordAll, IsRecorded}
+use Rattle.words.specs.Outcomes.{Leaves}
+use Rattle.list_record.specs.Recording.{recordAll, recordedAnswer}
 use Rattle.list.proofs.Sizes as S
 use Rattle.list.proofs.Sizes.Laws as S′
 use Rattle.list_record.proofs.Recorded as E
@@ -144,7 +145,7 @@ module _ {M : Type 1} (𝓤 : URA M) (H : Heap 𝓤) (A : Atoms 𝓤) (W : Given
       move ! (1 ∷ 2 ∷ []) $ fjoin ! $ move ! (1 ∷ 0 ∷ []) $ join ! $ frame ! $ done !
 
   exits : (r : Recording) (zs1 zs2 : List ℕ)
-      → IsRecorded (recordAll (u32List z ys1 ys2) (entry opcode lhs rhs)) (r .answer) (u32List (r .sizes) zs1 zs2)
+      → Leaves (recordAll (u32List z ys1 ys2) (entry opcode lhs rhs)) (recordedAnswer (r .answer)) (u32List (r .sizes) zs1 zs2)
       → length zs1 ≡ length ys1 → length zs2 ≡ length ys2
       → Is E.the-row (r .answer) (answer-val (r .answer) ∷ [])
       → ent 𝓤
@@ -225,10 +226,10 @@ module _ {M : Type 1} (𝓤 : URA M) (H : Heap 𝓤) (A : Atoms 𝓤) (W : Given
         await ! tt $ pick ! (λ r. split ! $ move ! (1 ∷ []) $
         use1 W (some (λ (zs : Lasts core.ended (κ1, (κ2, tt)) (z, rest)). ‵ (lasts core.ended (κ1, (κ2, tt)) (z, rest) zs)
         ⊛ raw (fact 𝓤
-        (IsRecorded (recordAll (u32List z ys1 ys2) (entry opcode lhs rhs)) (r .answer) (u32List (r .sizes) (zs .1 .0) (zs .1 .1 .0)))))) (id⊢ 𝓤 _) $
+        (Leaves (recordAll (u32List z ys1 ys2) (entry opcode lhs rhs)) (recordedAnswer (r .answer)) (u32List (r .sizes) (zs .1 .0) (zs .1 .1 .0)))))) (id⊢ 𝓤 _) $
         pick ! (λ zs. split ! $ move ! (1 ∷ []) $
         heard !
-        (IsRecorded (recordAll (u32List z ys1 ys2) (entry opcode lhs rhs)) (r .answer) (u32List (r .sizes) (zs .1 .0) (zs .1 .1 .0))) (λ e.
+        (Leaves (recordAll (u32List z ys1 ys2) (entry opcode lhs rhs)) (recordedAnswer (r .answer)) (u32List (r .sizes) (zs .1 .0) (zs .1 .1 .0))) (λ e.
         fsplit ! $ drop ! $ fsplit ! $ fsplit ! $ move ! (1 ∷ []) $ feqL ! (λ e1. move ! (1 ∷ []) $ fsplit ! $ fsplit ! $ move ! (1 ∷ []) $
         feqL ! (λ e2. move ! (1 ∷ []) $ drop ! $ move ! (2 ∷ []) $ split ! $
         move ! (1 ∷ []) $ peeks ! G.the-row (Is G.the-row) (shows 𝓤 H A G.the-row) r (w ∷ []) (λ is.

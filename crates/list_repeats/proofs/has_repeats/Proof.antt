@@ -6,11 +6,11 @@ use mathlib.Core.List.{List}
 use native.Mathlib.Omega.{arith}
 use borrow.Author.Needs.{needs}
 use lib.ListN.{length, getD, length-set}
-use Rattle.isa.specs.Entries.{admitted}
+use Rattle.words.specs.Limits.{maxPlaces}
 use Rattle.list.specs.declared.Sizes.{Sizes}
 use Rattle.list.specs.Lists.{u32List, entryAt}
 use Rattle.list_repeats.proofs.Repeats.{Distinct, distinct-none, distinct-more, no-repeat, repeat-at}
-use Rattle.list_repeats.proofs.Chains.{zeros, Back, Chained, chained-more, back-more, low-more, bucketOf, Ahead, ahead-more, new-key, same-told}
+use Rattle.list_repeats.proofs.Chains.{buckets, zeros, Back, Chained, chained-more, back-more, low-more, bucketOf, Ahead, ahead-more, new-key, same-told}
 use Rattle.list_repeats.proofs.has_repeats.Statement.{statement}
 use Rattle.list_repeats.proofs.has_repeats.Tie as tie
 
@@ -23,7 +23,7 @@ abbrev μ-loop2 : tie.MeasureT-loop2
 
 abbrev Inv-loop : tie.InvT-loop
 Inv-loop keys n heads₀ links₀ i₀ heads links i =
-    (i ≤ n) × (length heads ≡ 4096) × (length links ≡ 2048) × ((k : ℕ) → getD heads k 0 ≤ i) × Back links
+    (i ≤ n) × (length heads ≡ buckets) × (length links ≡ maxPlaces) × ((k : ℕ) → getD heads k 0 ≤ i) × Back links
     × ((s : Sizes) (ms : List ℕ) → Chained (λ j. bucketOf (entryAt (u32List s keys ms) j)) heads links i)
     × ((s : Sizes) (ms : List ℕ) → Distinct (entryAt (u32List s keys ms)) i)
 
@@ -31,10 +31,10 @@ abbrev μ-loop : tie.MeasureT-loop
 μ-loop keys n heads₀ links₀ i₀ heads links i = n - i
 
 loop-holds : tie.Need-loop-holds Inv-loop2 μ-loop2 Inv-loop μ-loop
-loop-holds c = (search needs, refl, refl, (λ k. zeros 4096 k 0), (λ j. zeros 2048 j j), (λ s ms j p. absurd (omega arith)), λ s ms. distinct-none (entryAt (u32List s (c .before .args .keys .now) ms)))
+loop-holds c = (search needs, refl, refl, (λ k. zeros buckets k 0), (λ j. zeros maxPlaces j j), (λ s ms j p. absurd (omega arith)), λ s ms. distinct-none (entryAt (u32List s (c .before .args .keys .now) ms)))
 
-key-at-requires : tie.Need-key-at-requires Inv-loop2 μ-loop2 Inv-loop μ-loop
-key-at-requires c κs = search needs
+entry-at-requires : tie.Need-entry-at-requires Inv-loop2 μ-loop2 Inv-loop μ-loop
+entry-at-requires c κs = search needs
 
 bucket-requires : tie.Need-bucket-requires Inv-loop2 μ-loop2 Inv-loop μ-loop
 bucket-requires c κs = search needs
@@ -53,25 +53,24 @@ loop2-holds c =
 sub-j : tie.Need-sub-j Inv-loop2 μ-loop2 Inv-loop μ-loop
 sub-j c = search needs
 
-key-at-requires-2 : tie.Need-key-at-requires-2 Inv-loop2 μ-loop2 Inv-loop μ-loop
-key-at-requires-2 c κs = search needs
+entry-at-requires-2 : tie.Need-entry-at-requires-2 Inv-loop2 μ-loop2 Inv-loop μ-loop
+entry-at-requires-2 c κs = search needs
 
 same-key-requires : tie.Need-same-key-requires Inv-loop2 μ-loop2 Inv-loop μ-loop
 same-key-requires c κs = search needs
 
 returns : tie.Need-returns Inv-loop2 μ-loop2 Inv-loop μ-loop
-unfolding entryAt admitted
 returns c =
     let args = c .before .before .before .before .before .before .before .before .before .before .args in
     let loop = c .before .before .before .before .before .before .before .before .loop in
     let loop-test = c .before .before .before .before .before .before .before .loop-test in
-    let key-at = c .before .before .before .before .before .before .key-at in
+    let entry-at = c .before .before .before .before .before .before .entry-at in
     let loop2 = c .before .before .before .before .loop2 in
     λ s ms.
     let ks = args .keys .now in
     sym
     (repeat-at (entryAt (u32List s ks ms)) (args .n) (loop2 .next - 1) (loop .i) (omega arith) (loop-test .taken)
-    (same-told (c .before .before .key-at2 .ensures s ms) (key-at .ensures s ms) (c .before .same-key .ensures) (c .if1 .taken)))
+    (same-told (c .before .before .entry-at2 .ensures s ms) (entry-at .ensures s ms) (c .before .same-key .ensures) (c .if1 .taken)))
 
 mul-next-2 : tie.Need-mul-next-2 Inv-loop2 μ-loop2 Inv-loop μ-loop
 mul-next-2 c = search needs
@@ -86,18 +85,17 @@ loop2-less c =
     let h = loop .inv .4 (loop2 .next - 1) in omega arith
 
 loop2-again : tie.Need-loop2-again Inv-loop2 μ-loop2 Inv-loop μ-loop
-unfolding entryAt admitted
 loop2-again c =
     let args = c .before .before .before .before .before .before .before .before .before .before .args in
     let loop = c .before .before .before .before .before .before .before .before .loop in
-    let key-at = c .before .before .before .before .before .before .key-at in
+    let entry-at = c .before .before .before .before .before .before .entry-at in
     let bucket = c .before .before .before .before .before .bucket in
     let loop2 = c .before .before .before .before .loop2 in
     let loop2-test = c .before .before .before .loop2-test in (
       let h = loop .inv .4 (loop2 .next - 1) in omega arith,
       λ s ms.
-          ahead-more (entryAt (u32List s (args .keys .now) ms)) (key-at .result) (loop .links) (getD (loop .heads) (bucket .result) 0) (loop2 .next)
-          (loop2-test .taken) (same-told (c .before .before .key-at2 .ensures s ms) refl (c .before .same-key .ensures) (c .if1 .left)) (loop2 .inv .1 s ms),
+          ahead-more (entryAt (u32List s (args .keys .now) ms)) (entry-at .result) (loop .links) (getD (loop .heads) (bucket .result) 0) (loop2 .next)
+          (loop2-test .taken) (same-told (c .before .before .entry-at2 .ensures s ms) refl (c .before .same-key .ensures) (c .if1 .left)) (loop2 .inv .1 s ms),
     )
 
 mul-links : tie.Need-mul-links Inv-loop2 μ-loop2 Inv-loop μ-loop
@@ -128,12 +126,11 @@ loop-less : tie.Need-loop-less Inv-loop2 μ-loop2 Inv-loop μ-loop
 loop-less c = search needs
 
 loop-again : tie.Need-loop-again Inv-loop2 μ-loop2 Inv-loop μ-loop
-unfolding entryAt admitted
 loop-again c =
     let args = c .before .before .before .before .before .before .before .args in
     let loop = c .before .before .before .before .before .loop in
     let loop-test = c .before .before .before .before .loop-test in
-    let key-at = c .before .before .before .key-at in
+    let entry-at = c .before .before .before .entry-at in
     let bucket = c .before .before .bucket in
     let ks = args .keys .now in
     let heads = loop .heads in
@@ -143,7 +140,7 @@ loop-again c =
     let less : i < args .n = loop-test .taken in
     let hb : b < length heads = (let e = bucket .ensures in omega arith) in
     let hi : i < length links = omega arith in
-    let is : (s : Sizes) (ms : List ℕ) → bucketOf (entryAt (u32List s ks ms) i) ≡ b = λ s ms. sym (bucket .ensures ∙ ap bucketOf (key-at .ensures s ms)) in (
+    let is : (s : Sizes) (ms : List ℕ) → bucketOf (entryAt (u32List s ks ms) i) ≡ b = λ s ms. sym (bucket .ensures ∙ ap bucketOf (entry-at .ensures s ms)) in (
       search needs,
       length-set heads b (i + 1) ∙ loop .inv .1,
       length-set links i (getD heads b 0) ∙ loop .inv .2,
@@ -154,7 +151,7 @@ loop-again c =
           let f = entryAt (u32List s ks ms) in
           distinct-more f i (loop .inv .6 s ms)
           (new-key f heads links i b (c .before .loop2 .next) (loop .inv .5 s ms) (is s ms) (let h = c .loop2-test .left in omega arith)
-          (rw (key-at .ensures s ms) at (c .before .loop2 .inv .1 s ms))),
+          (rw (entry-at .ensures s ms) at (c .before .loop2 .inv .1 s ms))),
     )
 
 returns-2 : tie.Need-returns-2 Inv-loop2 μ-loop2 Inv-loop μ-loop
@@ -174,13 +171,13 @@ has-repeats-spec =
     Inv-loop
     μ-loop
     loop-holds
-    key-at-requires
+    entry-at-requires
     bucket-requires
     mul-next
     array-read-next
     loop2-holds
     sub-j
-    key-at-requires-2
+    entry-at-requires-2
     same-key-requires
     returns
     mul-next-2

@@ -2,7 +2,7 @@
 -- comparison of heights find what the definition finds. Assumes nothing.
 use mathlib.Core.Path.{refl, sym, _∙_}
 use borrow.Author.Needs.{needs}
-use Rattle.list.proofs.JudgedLists.{judged-height, judged-refused}
+use Rattle.list.proofs.JudgedLists.{places-height, places-refused}
 use Rattle.list_stored.proofs.Copies.{content-declined, content-repeat, content-other, content-fine}
 use Rattle.list_stored.proofs.judge_content.Statement.{statement}
 use Rattle.list_stored.proofs.judge_content.Tie as tie
@@ -16,14 +16,14 @@ slice-aggregate-unpack-2 c = search needs
 unpack-requires : tie.Need-unpack-requires
 unpack-requires c κs = search needs
 
-slice-aggregate-judge-list : tie.Need-slice-aggregate-judge-list
-slice-aggregate-judge-list c = search needs
+slice-aggregate-judge-places : tie.Need-slice-aggregate-judge-places
+slice-aggregate-judge-places c = search needs
 
-slice-aggregate-judge-list-2 : tie.Need-slice-aggregate-judge-list-2
-slice-aggregate-judge-list-2 c = search needs
+slice-aggregate-judge-places-2 : tie.Need-slice-aggregate-judge-places-2
+slice-aggregate-judge-places-2 c = search needs
 
-judge-list-requires : tie.Need-judge-list-requires
-judge-list-requires c κs = search needs
+judge-places-requires : tie.Need-judge-places-requires
+judge-places-requires c κs = search needs
 
 enum-known-reason : tie.Need-enum-known-reason
 enum-known-reason c = search needs
@@ -41,11 +41,11 @@ returns : tie.Need-returns
 returns c =
     let pre = c .before .before .before .before .before .before .before .before .before .before .before .before .before .before .before .pre in
     let unpack = c .before .before .before .before .before .before .before .before .before .before .before .unpack in
-    let judge-list = c .before .before .before .before .before .before .judge-list in
+    let judge-places = c .before .before .before .before .before .before .judge-places in
     let height = c .before .before .before .before .height in
     sym
     (content-repeat _ _ _ _ _ _ (pre .0) (pre .1) refl refl (unpack .ensures .0) (unpack .ensures .1)
-    (judged-height _ _ (sym (height .given .1) ∙ judge-list .ensures) .0) (sym (c .before .has-repeats .ensures _ _) ∙ c .if1 .taken))
+    (places-height _ _ _ (sym (height .given .1) ∙ judge-places .ensures _) .0) (sym (c .before .has-repeats .ensures _ _) ∙ c .if1 .taken))
 
 stored-height-requires : tie.Need-stored-height-requires
 stored-height-requires c κs = search needs
@@ -54,10 +54,10 @@ returns-2 : tie.Need-returns-2
 returns-2 c =
     let pre = c .before .before .before .before .before .before .before .before .before .before .before .before .before .before .before .before .before .pre in
     let unpack = c .before .before .before .before .before .before .before .before .before .before .before .before .before .unpack in
-    let judge-list = c .before .before .before .before .before .before .before .before .judge-list in
+    let judge-places = c .before .before .before .before .before .before .before .before .judge-places in
     let height = c .before .before .before .before .before .before .height in
     let has-repeats = c .before .before .before .has-repeats in
-    let j = judged-height _ _ (sym (height .given .1) ∙ judge-list .ensures) in
+    let j = places-height _ _ _ (sym (height .given .1) ∙ judge-places .ensures _) in
     sym
     (content-other _ _ _ _ _ _ (pre .0) (pre .1) refl refl (unpack .ensures .0) (unpack .ensures .1)
     (j .0) (sym (has-repeats .ensures _ _) ∙ c .before .before .if1 .left) (λ e. c .if2 .taken (c .before .stored-height .ensures ∙ e ∙ sym (j .1))))
@@ -66,19 +66,19 @@ returns-3 : tie.Need-returns-3
 returns-3 c =
     let pre = c .before .before .before .before .before .before .before .before .before .before .before .before .pre in
     let unpack = c .before .before .before .before .before .before .before .before .unpack in
-    let judge-list = c .before .before .before .judge-list in
+    let judge-places = c .before .before .before .judge-places in
     sym
     (content-declined _ _ _ _ _ _ (pre .0) (pre .1) refl refl (unpack .ensures .0) (unpack .ensures .1)
-    (judged-refused _ _ (sym (c .before .reason .given .1) ∙ judge-list .ensures)))
+    (places-refused _ _ _ (sym (c .before .reason .given .1) ∙ judge-places .ensures _)))
 
 returns-4 : tie.Need-returns-4
 returns-4 c =
     let pre = c .before .before .before .before .before .before .before .before .before .before .before .before .before .before .before .before .before .pre in
     let unpack = c .before .before .before .before .before .before .before .before .before .before .before .before .before .unpack in
-    let judge-list = c .before .before .before .before .before .before .before .before .judge-list in
+    let judge-places = c .before .before .before .before .before .before .before .before .judge-places in
     let height = c .before .before .before .before .before .before .height in
     let has-repeats = c .before .before .before .has-repeats in
-    let j = judged-height _ _ (sym (height .given .1) ∙ judge-list .ensures) in
+    let j = places-height _ _ _ (sym (height .given .1) ∙ judge-places .ensures _) in
     sym
     (content-fine _ _ _ _ _ _ (pre .0) (pre .1) refl refl (unpack .ensures .0) (unpack .ensures .1)
     (j .0) (sym (has-repeats .ensures _ _) ∙ c .before .before .if1 .left) (sym (c .before .stored-height .ensures) ∙ c .if2 .left ∙ j .1))
@@ -90,9 +90,9 @@ judge-content-spec =
     slice-aggregate-unpack
     slice-aggregate-unpack-2
     unpack-requires
-    slice-aggregate-judge-list
-    slice-aggregate-judge-list-2
-    judge-list-requires
+    slice-aggregate-judge-places
+    slice-aggregate-judge-places-2
+    judge-places-requires
     enum-known-reason
     enum-known-height
     slice-aggregate-has-repeats

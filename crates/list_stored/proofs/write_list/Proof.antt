@@ -67,10 +67,10 @@ returns-4 c =
     let if1 = c .before .before .before .before .before .before .if1 in
     let if2 = c .before .before .before .before .if2 in
     let j = judged-height _ _ (sym (height .given .1) ∙ judge-list .ensures) in
-    written-done _ _ _ _
+    written-done _ _ _ _ _
     (write-fine _ _ (j .0) (sym (has-repeats .ensures _ _) ∙ if1 .left) (let e = stored-length .ensures in let h = if2 .left in omega arith))
     (stored-length .ensures)
-    (c .before .before .put-list .ensures (j .1))
+    (j .1) (c .before .before .put-list .ensures)
 
 pub write-list-spec : {M : Type 1} → statement M
 write-list-spec =

@@ -7,7 +7,7 @@ use borrow.Author.Count.{below-more}
 use borrow.Author.Tests.{not-false}
 use lib.ListN.{length, getD}
 use Rattle.field.specs.Elements.{p}
-use Rattle.air.proofs.Rows.{all-reduced}
+use Rattle.table.proofs.Rows.{all-reduced}
 use Rattle.table.proofs.Shapes.{word-above}
 use Rattle.table.proofs.Tens.{ten-more}
 use Rattle.table.proofs.all_reduced.Statement.{statement}

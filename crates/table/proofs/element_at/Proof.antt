@@ -1,7 +1,7 @@
 -- `table::element_at` meets its contract: the three words are read where the definition reads them. Assumes nothing.
 use mathlib.Core.Path.{refl}
 use borrow.Author.Needs.{needs}
-use Rattle.air.specs.Columns.{elementAt}
+use Rattle.table.specs.Columns.{elementAt}
 use Rattle.table.proofs.element_at.Statement.{statement}
 use Rattle.table.proofs.element_at.Tie as tie
 

@@ -6,9 +6,10 @@ use borrow.Author.Needs.{needs}
 use lib.ListN.{length, length-set}
 use lib.Seq.{sets}
 use Rattle.words.specs.LittleEndian.{leAt}
-use Rattle.list.specs.Places.{placesFrom, places}
-use Rattle.list_bytes.proofs.Places.{map-turn, places-done}
-use Rattle.transcript.specs.Transcript.{challengesIn}
+use Rattle.words.specs.Places.{placesFrom, places}
+use Rattle.words.proofs.Places.{map-turn, places-done}
+use Rattle.table.specs.Challenges.{challengeWords}
+use Rattle.transcript.specs.Transcript.{inputChallenges}
 use Rattle.transcript.proofs.Steps.{fifteen}
 use Rattle.transcript.proofs.challenges_in.Statement.{statement}
 use Rattle.transcript.proofs.challenges_in.Tie as tie
@@ -19,12 +20,12 @@ wordAt input i = leAt input (8 * i) 8
 
 abbrev Inv-loop : tie.InvT-loop
 Inv-loop input challenges₀ i₀ challenges i =
-    (i ≤ 15) × (length challenges ≡ 15)
-    × (sets challenges₀ 0 (map (wordAt input) (places 15))
-    ≡ sets challenges i (map (wordAt input) (placesFrom i (15 - i))))
+    (i ≤ challengeWords) × (length challenges ≡ challengeWords)
+    × (sets challenges₀ 0 (map (wordAt input) (places challengeWords))
+    ≡ sets challenges i (map (wordAt input) (placesFrom i (challengeWords - i))))
 
 abbrev μ-loop : tie.MeasureT-loop
-μ-loop input challenges₀ i₀ challenges i = 15 - i
+μ-loop input challenges₀ i₀ challenges i = challengeWords - i
 
 loop-holds : tie.Need-loop-holds Inv-loop μ-loop
 loop-holds c = (search needs, refl, refl)
@@ -53,15 +54,15 @@ loop-again c =
     let s = c .before .before .before .before .args .input .now in (
       search needs,
       simp length-set (search needs),
-      loop .inv .2 ∙ map-turn (wordAt s) (loop .i) 15 (c .word-at .result) (loop .challenges) (c .before .loop-test .taken) (c .word-at .ensures),
+      loop .inv .2 ∙ map-turn (wordAt s) (loop .i) challengeWords (c .word-at .result) (loop .challenges) (c .before .loop-test .taken) (c .word-at .ensures),
     )
 
 returns : tie.Need-returns Inv-loop μ-loop
-unfolding challengesIn
+unfolding inputChallenges
 returns c =
     let s = c .before .before .before .args .input .now in
     let loop = c .before .loop in
-    let done = places-done (loop .i) 15 (c .loop-test .left) in
+    let done = places-done (loop .i) challengeWords (c .loop-test .left) in
     sym (loop .inv .2 ∙ ap (λ (is : List ℕ). sets (loop .challenges) (loop .i) (map (wordAt s) is)) done) ∙ fifteen (wordAt s)
 
 pub challenges-in-spec : {M : Type 1} → statement M

@@ -30,7 +30,7 @@ returns c =
     let reason = c .before .before .before .before .before .reason in
     let fill = c .before .before .before .before .before .before .before .before .before .fill in
     let put-reason = c .before .before .put-reason in
-    filling-refused _ _ _ _ _ _ _ _ (rw (reason .given .1) at (fill .ensures)) (put-reason .ensures)
+    filling-refused _ _ _ _ _ _ (reason .given .0 .0) _ (rw (reason .given .1) at (fill .ensures)) (put-reason .ensures)
 
 same-length-3 : tie.Need-same-length-3
 same-length-3 c = search needs

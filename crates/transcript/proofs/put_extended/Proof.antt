@@ -33,7 +33,7 @@ returns c =
     let reason = c .before .before .before .before .before .reason in
     let extend = c .before .before .before .before .before .before .before .before .before .extend in
     let put-reason = c .before .before .put-reason in
-    extension-refused _ _ _ _ _ _ _ _ (rw (reason .given .1) at (extend .ensures)) (put-reason .ensures)
+    extension-refused _ _ _ _ _ _ (reason .given .0 .0) _ (rw (reason .given .1) at (extend .ensures)) (put-reason .ensures)
 
 same-length-3 : tie.Need-same-length-3
 same-length-3 c = search needs

@@ -2,6 +2,8 @@
 use mathlib.Core.Path.{sym}
 use native.Mathlib.Omega.{arith}
 use Prim.Native.Nat.{_*_}
+use Rattle.table.specs.Columns.{mainWidth, auxWidth}
+use Rattle.transcript.specs.Transcript.{maxPrintedRows}
 use Rattle.transcript.proofs.Steps.{take-zeros, length-zeros, height-refused, height-printed}
 use borrow.Author.Needs.{needs}
 use Rattle.transcript.proofs.put_height.Statement.{statement}
@@ -31,7 +33,7 @@ array-borrow-prefix-table c = search needs
 slice-aggregate-put-calls : tie.Need-slice-aggregate-put-calls
 slice-aggregate-put-calls c =
     let args = c .before .before .before .before .before .before .before .args in
-    sym (length-zeros (10 * args .padded) 5120 (search needs))
+    sym (length-zeros (mainWidth * args .padded) (mainWidth * maxPrintedRows) (search needs))
 
 array-borrow-prefix-aux : tie.Need-array-borrow-prefix-aux
 array-borrow-prefix-aux c = search needs
@@ -39,12 +41,12 @@ array-borrow-prefix-aux c = search needs
 slice-aggregate-put-calls-2 : tie.Need-slice-aggregate-put-calls-2
 slice-aggregate-put-calls-2 c =
     let args = c .before .before .before .before .before .before .before .before .args in
-    sym (length-zeros (3 * args .padded) 1536 (search needs))
+    sym (length-zeros (auxWidth * args .padded) (auxWidth * maxPrintedRows) (search needs))
 
 put-calls-requires : tie.Need-put-calls-requires
 put-calls-requires c κs =
     let args = c .before .before .before .before .before .before .before .before .args in
-    let l = length-zeros (10 * args .padded) 5120 (search needs) in
+    let l = length-zeros (mainWidth * args .padded) (mainWidth * maxPrintedRows) (search needs) in
     (search needs, search needs, omega arith)
 
 same-length-2 : tie.Need-same-length-2
@@ -55,8 +57,8 @@ returns-2 c =
     let args = c .before .before .before .before .before .before .before .before .before .before .before .before .before .args in
     let if1 = c .before .before .before .before .before .before .before .before .if1 in
     let put-calls = c .before .before .before .before .put-calls in
-    let table = take-zeros (10 * args .padded) 5120 (search needs) in
-    let aux = take-zeros (3 * args .padded) 1536 (search needs) in
+    let table = take-zeros (mainWidth * args .padded) (mainWidth * maxPrintedRows) (search needs) in
+    let aux = take-zeros (auxWidth * args .padded) (auxWidth * maxPrintedRows) (search needs) in
     height-printed _ _ _ _ _ _ (if1 .left) table aux (put-calls .ensures)
 
 pub put-height-spec : {M : Type 1} → statement M

@@ -4,7 +4,7 @@ use Rattle.text.proofs.Putting.{put-then}
 use Rattle.transcript.proofs.Fits.{rows-bound}
 use Rattle.transcript.specs.Transcript.{openingText}
 use Rattle.xfield.specs.XFieldElements.{extOf}
-use Rattle.fill.specs.Extending.{elementWords}
+use Rattle.sums.specs.RunningSum.{elementWords}
 use borrow.Author.Needs.{needs}
 use Rattle.transcript.proofs.put_opening.Statement.{statement}
 use Rattle.transcript.proofs.put_opening.Tie as tie

@@ -30,7 +30,7 @@ returns c =
     let reason = c .before .before .before .before .before .reason in
     let pad = c .before .before .before .before .before .before .before .before .before .pad in
     let put-reason = c .before .before .put-reason in
-    padding-refused _ _ _ _ _ _ _ _ (rw (reason .given .1) at (pad .ensures)) (put-reason .ensures)
+    padding-refused _ _ _ _ _ _ (reason .given .0 .0) _ (rw (reason .given .1) at (pad .ensures)) (put-reason .ensures)
 
 same-length-3 : tie.Need-same-length-3
 same-length-3 c = search needs

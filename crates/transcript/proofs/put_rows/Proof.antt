@@ -6,7 +6,7 @@ use Prim.Native.Nat.{ℕ, _+_, _-_, _*_, _≤_}
 use native.Mathlib.Numerals.{add-one}
 use native.Mathlib.Omega.{arith}
 use lib.ListN.{length, take, drop}
-use Rattle.air.specs.Columns.{rowAt}
+use Rattle.table.specs.Columns.{mainWidth, rowAt}
 use Rattle.text.specs.Lines.{rowLine}
 use Rattle.text.specs.Put.{Put}
 use Rattle.text.proofs.Putting.{put-none, put-then}
@@ -20,12 +20,12 @@ none : (table d : List ℕ) (a : ℕ) → a ≤ length d → Put d a (rowLines t
 unfolding rowLines
 none table d a h = put-none d a h
 
-module _ (table : List ℕ) (i : ℕ) (whole : 10 * i + 10 ≤ length table) where
+module _ (table : List ℕ) (i : ℕ) (whole : mainWidth * i + mainWidth ≤ length table) where
   -- the part of the table that a turn lends
   abbrev part : List ℕ
-  part = take (10 * i + 10 - 10 * i) (drop (10 * i) table)
+  part = take (mainWidth * i + mainWidth - mainWidth * i) (drop (mainWidth * i) table)
 
-  part-length : length part ≡ 10
+  part-length : length part ≡ mainWidth
   part-length = ap length (row-words table i whole)
 
   part-bound : length (rowLine part) ≤ 210
@@ -72,7 +72,7 @@ put-row-requires : tie.Need-put-row-requires Inv-loop μ-loop
 put-row-requires c κs =
     let w = c .before .before .before .loop in
     let t = c .before .before .before .before .before .before .args .table .now in
-    let whole : 10 * w .row + 10 ≤ length t = search needs in
+    let whole : mainWidth * w .row + mainWidth ≤ length t = search needs in
     let l = part-length t (w .row) whole in
     let b = part-bound t (w .row) whole in
     let r = rows-bound t (w .row) in

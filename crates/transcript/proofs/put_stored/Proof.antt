@@ -39,7 +39,7 @@ returns c =
     let answer = c .before .before .before .before .before .answer in
     let read-list = c .before .before .before .before .before .before .before .before .before .before .read-list in
     let put-reason = c .before .before .put-reason in
-    reading-refused _ _ _ _ (rw (answer .given .1) at (read-list .ensures)) (put-reason .ensures)
+    reading-refused _ _ _ (answer .given .0 .0) (rw (answer .given .1) at (read-list .ensures)) (put-reason .ensures)
 
 same-length-2 : tie.Need-same-length-2
 same-length-2 c = search needs

@@ -5,10 +5,10 @@ use Rattle.vectors.proofs.print_tally.Statement.{statement}
 use Rattle.vectors.proofs.print_tally.Tie as tie
 
 abbrev Inv-loop : tie.InvT-loop
-Inv-loop name counts kind from n₀ t7 t8 t9 t10 n = n ≤ 15
+Inv-loop name counts kind from n₀ t7 t8 t9 t10 n = n ≤ 31
 
 abbrev μ-loop : tie.MeasureT-loop
-μ-loop name counts kind from n₀ t7 t8 t9 t10 n = 15 - n
+μ-loop name counts kind from n₀ t7 t8 t9 t10 n = 31 - n
 
 mul-from : tie.Need-mul-from Inv-loop μ-loop
 mul-from c = search needs

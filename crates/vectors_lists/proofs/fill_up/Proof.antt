@@ -15,9 +15,9 @@ abbrev μ-loop : tie.MeasureT-loop
 loop-holds : tie.Need-loop-holds Inv-loop μ-loop
 loop-holds c = search needs
 
-record-u32-table-entry-by-value-requires :
-    tie.Need-record-u32-table-entry-by-value-requires Inv-loop μ-loop
-record-u32-table-entry-by-value-requires c κs = search needs
+record-lending-requires :
+    tie.Need-record-lending-requires Inv-loop μ-loop
+record-lending-requires c κs = search needs
 
 recorded-requires : tie.Need-recorded-requires Inv-loop μ-loop
 recorded-requires c κs = search needs
@@ -50,7 +50,7 @@ fill-up-spec =
     Inv-loop
     μ-loop
     loop-holds
-    record-u32-table-entry-by-value-requires
+    record-lending-requires
     recorded-requires
     note-position-requires
     add-i

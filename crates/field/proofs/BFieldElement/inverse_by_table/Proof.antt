@@ -1,4 +1,4 @@
--- `inverse_by_table` answers the inverse modulo p, or 0, given the table: the loop keeps `Turning`, as that of `inverse_or_zero`; its two ends
+-- `inverse_by_table` answers the inverse modulo p, or 0: the loop keeps `Turning`, as that of `inverse_or_zero`; its two ends
 -- are `table-low` and `table-high`, where the inverse of the remainder is looked up. r1 falls with each turn. Assumes nothing.
 use borrow.Author.Needs.{needs}
 use native.Mathlib.Nat.{mod-lt}
@@ -19,7 +19,7 @@ value-requires : tie.Need-value-requires Inv-loop μ-loop
 value-requires c κs = search needs
 
 returns : tie.Need-returns Inv-loop μ-loop
-returns c = λ given. omega (arith, none _ _ (c .before .value .ensures) (omega arith))
+returns c = omega (arith, none _ _ (c .before .value .ensures) (omega arith))
 
 loop-holds : tie.Need-loop-holds Inv-loop μ-loop
 loop-holds c = begin _ (omega arith) (omega (arith, c .before .value .ensures, reduced (c .before .before .args .self .0)))
@@ -50,11 +50,10 @@ neg-requires c κs = search needs
 
 returns-2 : tie.Need-returns-2 Inv-loop μ-loop
 returns-2 c =
-    λ given.
     let l = c .before .before .before .before .before in
     let w = l .before .before in
     table-high _ _ _ _ _ _ _ _ _ (w .value .ensures) (halfway _ _ _ _ _ (l .loop .inv) (omega arith))
-    (looked-up _ given _ (omega arith)) (c .before .mul .ensures) (c .neg .ensures)
+    (looked-up _ (w .before .pre) _ (omega arith)) (c .before .mul .ensures) (c .neg .ensures)
 
 div-second : tie.Need-div-second Inv-loop μ-loop
 div-second c = omega (arith, halfway _ _ _ _ _ (c .before .before .loop .inv) (omega arith) .some)
@@ -87,10 +86,9 @@ mul-requires-2 c κs = search needs
 
 returns-3 : tie.Need-returns-3 Inv-loop μ-loop
 returns-3 c =
-    λ given.
     let l = c .before .before .before in
     let w = l .before .before in
-    table-low _ _ _ _ _ _ _ _ (w .value .ensures) (l .loop .inv) (looked-up _ given _ (omega arith)) (c .mul2 .ensures)
+    table-low _ _ _ _ _ _ _ _ (w .value .ensures) (l .loop .inv) (looked-up _ (w .before .pre) _ (omega arith)) (c .mul2 .ensures)
 
 pub inverse-by-table-spec : {M : Type 1} → statement M
 inverse-by-table-spec =

@@ -12,14 +12,15 @@ add-requires : tie.Need-add-requires
 add-requires c κs = search needs
 
 inverse-by-table-requires : tie.Need-inverse-by-table-requires
-inverse-by-table-requires c κs = search needs
+inverse-by-table-requires c κs = c .before .pre .1
 
 returns : tie.Need-returns
 returns c =
-    λ table given. c .add .ensures ∙ ap (λ (n : ℕ). addF n n) given ∙ invF-half (c .before .before .args .x) (omega arith)
+    let start = c .before .before in
+    c .add .ensures ∙ ap (λ (n : ℕ). addF n n) (start .pre .0) ∙ invF-half (start .args .x) (omega arith)
 
 returns-2 : tie.Need-returns-2
-returns-2 c = λ table given. c .inverse-by-table .ensures table
+returns-2 c = c .inverse-by-table .ensures
 
 pub inverse-of-half-spec : {M : Type 1} → statement M
 inverse-of-half-spec = tie.close (tie.spec add-requires inverse-by-table-requires returns returns-2)

@@ -1,7 +1,7 @@
 -- `table::AuxRow::has_shape` meets its contract: the test is the definition's. Assumes nothing.
 use mathlib.Core.Path.{refl}
 use borrow.Author.Needs.{needs}
-use Rattle.air.specs.Columns.{auxShape}
+use Rattle.table.specs.Columns.{auxShape}
 use Rattle.table.proofs.AuxRow.has_shape.Statement.{statement}
 use Rattle.table.proofs.AuxRow.has_shape.Tie as tie
 

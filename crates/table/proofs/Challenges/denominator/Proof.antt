@@ -1,6 +1,6 @@
 -- `table::Challenges::denominator` meets its contract: the sum is made in the definition's order. Assumes nothing.
 use mathlib.Core.Path.{refl}
-use Rattle.air.specs.Challenges.{denominator, compressedRow}
+use Rattle.table.specs.Challenges.{denominator, compressedRow}
 use Rattle.table.proofs.Challenges.denominator.Statement.{statement}
 use Rattle.table.proofs.Challenges.denominator.Tie as tie
 

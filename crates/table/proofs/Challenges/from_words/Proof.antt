@@ -1,7 +1,7 @@
 -- `table::Challenges::from_words` meets its contract: element i of the words is challenge i. Assumes nothing.
 use mathlib.Core.Path.{refl}
 use borrow.Author.Needs.{needs}
-use Rattle.air.specs.Challenges.{challengesOf}
+use Rattle.table.specs.Challenges.{challengesOf}
 use Rattle.table.proofs.Challenges.from_words.Statement.{statement}
 use Rattle.table.proofs.Challenges.from_words.Tie as tie
 

@@ -1,6 +1,6 @@
 -- `table::Challenges::has_shape` meets its contract: the test is the definition's. Assumes nothing.
 use mathlib.Core.Path.{refl}
-use Rattle.air.specs.Challenges.{challengesShape}
+use Rattle.table.specs.Challenges.{challengesShape}
 use Rattle.table.proofs.Challenges.has_shape.Statement.{statement}
 use Rattle.table.proofs.Challenges.has_shape.Tie as tie
 

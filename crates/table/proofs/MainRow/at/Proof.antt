@@ -1,7 +1,7 @@
 -- `table::MainRow::at` meets its contract: the ten words are read where the definition reads them. Assumes nothing.
 use mathlib.Core.Path.{refl}
 use borrow.Author.Needs.{needs}
-use Rattle.air.specs.Columns.{rowAt}
+use Rattle.table.specs.Columns.{rowAt}
 use Rattle.table.specs.Layouts.{rowOf}
 use Rattle.table.proofs.MainRow.at.Statement.{statement}
 use Rattle.table.proofs.MainRow.at.Tie as tie

@@ -4,7 +4,7 @@ use mathlib.Core.Path.{refl}
 use lib.ListN.{length}
 use borrow.Author.Tests.{eq-eqb, ne-eqb}
 use Rattle.words.specs.Limits.{maxRows}
-use Rattle.air.specs.Columns.{mainWidth, rowCount, tableShape}
+use Rattle.table.specs.Columns.{mainWidth, rowCount, tableShape}
 use Rattle.table.proofs.Shapes.{at-most}
 use Rattle.table.proofs.MainRow.has_shape.Statement.{statement}
 use Rattle.table.proofs.MainRow.has_shape.Tie as tie

@@ -2,7 +2,8 @@
 -- inverse, or zero where the norm is 0 (proofs/Inverses.antt). Assumes nothing.
 use borrow.Author.Needs.{needs}
 use Rattle.xfield.proofs.RingLawsX.{ext-path}
-use Rattle.xfield.proofs.Inverses.{adjugateX, inverse-by-adjugate}
+use Rattle.xfield.specs.Inverses.{adjugateX}
+use Rattle.xfield.proofs.Inverses.{inverse-by-adjugate}
 use Rattle.xfield.proofs.XFieldElement.inverse_or_zero.Statement.{statement}
 use Rattle.xfield.proofs.XFieldElement.inverse_or_zero.Tie as tie
 

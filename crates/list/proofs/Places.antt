@@ -1,0 +1,21 @@
+-- The entries at runs of places. Every used place gets a section, so the entries of a list are those at its first places.
+use mathlib.Core.Path.{_≡_, refl, ap, _∙_}
+use mathlib.Core.List.{List, [], _∷_, _++_, map}
+use Prim.Native.Nat.{ℕ, zero, suc}
+use Rattle.words.specs.Places.{placesFrom, places}
+use Rattle.words.proofs.Places.{places-more}
+use Rattle.list.specs.Lists.{U32List, used, entryAt}
+use Rattle.list.specs.Heights.{getsSection, sectionPlacesTo, sectionEntries, entriesAt}
+
+pub entries-map : (l : U32List) (is : List ℕ) → entriesAt l is ≡ map (entryAt l) is
+unfolding entriesAt
+entries-map l [] = refl
+entries-map l (i ∷ is) = rw (entries-map l is)
+
+section-places-to : (l : U32List) (n : ℕ) → sectionPlacesTo l n ≡ places n
+unfolding sectionPlacesTo getsSection placesFrom
+section-places-to l zero = refl
+section-places-to l (suc n) = ap (λ (is : List ℕ). is ++ (n ∷ [])) (section-places-to l n) ∙ places-more n
+
+pub section-entries-map : (l : U32List) → sectionEntries l ≡ map (entryAt l) (places (used l))
+section-entries-map l = rw (section-places-to l (used l)) (entries-map l (places (used l)))

@@ -1,0 +1,4 @@
+pub mod RunningSums
+pub mod SumWords
+pub mod ZeroDenominators
+pub mod LookupSums

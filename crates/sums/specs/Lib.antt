@@ -1,0 +1,2 @@
+pub mod RunningSum
+pub mod LookupSum

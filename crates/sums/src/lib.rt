@@ -1,0 +1,1 @@
+// Running sums: definitions and laws alone. The table's sum stands on them, and others will.

@@ -1,0 +1,3 @@
+pub mod Feeding
+pub mod Answering
+pub mod Taking

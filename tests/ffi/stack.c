@@ -1,0 +1,84 @@
+/* How much stack each function of include/u32_table.h takes: each runs on a thread of its own whose stack was painted before, with a full list of
+ * 2,048 entries and its table of 131,072 rows. Fails where one takes more than the header says. Built and run by tests/ffi/run. */
+#define _GNU_SOURCE
+#include <inttypes.h>
+#include <pthread.h>
+#include <stdio.h>
+#include <stdlib.h>
+#include <string.h>
+
+#include "u32_table.h"
+
+enum { PLACES = U32_TABLE_MAX_PLACES, ROWS = U32_TABLE_MAX_ROWS, STACK = 1 << 20, PAINT = 0xa5 };
+
+static uint64_t keys[3 * PLACES], multiplicities[PLACES], table[10 * ROWS], aux[3 * ROWS], challenges[15], answers[8];
+static uint8_t bytes[U32_TABLE_STORED_BYTES(PLACES)], old[8 + 21 * PLACES];
+static uint64_t number;
+
+static void nothing(void) { number = 0; }
+static void record(void) {
+    for (uint64_t i = 0; i < PLACES; i++) {
+        uint64_t got = u32_table_record(PLACES, i, keys, 3 * PLACES, multiplicities, PLACES, U32_TABLE_POP_COUNT, UINT32_MAX - i, i, answers, 8);
+        number = number ? number : got;
+    }
+}
+static void compare(void) { number = u32_table_compare(4, 5, 6, 4, 5, 7, answers, 8); }
+static void plan(void) { number = u32_table_plan(PLACES, PLACES, keys, 3 * PLACES, multiplicities, PLACES, answers, 8); }
+static void write(void) {
+    number = u32_table_write(PLACES, PLACES, keys, 3 * PLACES, multiplicities, PLACES, bytes, sizeof bytes, answers, 8);
+}
+static void read(void) {
+    number = u32_table_read(bytes, sizeof bytes, PLACES, PLACES, keys, 3 * PLACES, multiplicities, PLACES, answers, 8);
+}
+static void read_old(void) {
+    number = u32_table_read(old, sizeof old, PLACES, PLACES, keys, 3 * PLACES, multiplicities, PLACES, answers, 8);
+}
+static void fill(void) {
+    number = u32_table_fill(PLACES, PLACES, keys, 3 * PLACES, multiplicities, PLACES, table, 10 * ROWS, answers, 8);
+}
+static void pad(void) { number = u32_table_pad(table, 10 * ROWS, answers[0]); }
+static void extend(void) { number = u32_table_extend(table, 10 * ROWS, aux, 3 * ROWS, challenges, 15, answers, 8); }
+static void check(void) { number = u32_table_check(table, 10 * ROWS, aux, 3 * ROWS, challenges, 15, answers, 8); }
+
+static void *run(void *call) {
+    (*(void (**)(void))call)();
+    return NULL;
+}
+
+/* the bytes of a fresh stack that a call has changed */
+static size_t taken(void (*call)(void)) {
+    uint8_t *stack = aligned_alloc(4096, STACK);
+    pthread_attr_t attributes;
+    pthread_t thread;
+    if (!stack) exit(2);
+    memset(stack, PAINT, STACK);
+    if (pthread_attr_init(&attributes) || pthread_attr_setstack(&attributes, stack, STACK)) exit(2);
+    if (pthread_create(&thread, &attributes, run, &call) || pthread_join(thread, NULL)) exit(2);
+    size_t untouched = 0;
+    while (untouched < STACK && stack[untouched] == PAINT) untouched++;
+    free(stack);
+    return STACK - untouched;
+}
+
+int main(void) {
+    /* at most so many bytes, as the header says */
+    static const struct {
+        const char *name;
+        void (*call)(void);
+        size_t most;
+    } calls[] = {{"record", record, 2000}, {"compare", compare, 2000}, {"plan", plan, 2000}, {"write", write, 52000}, {"read", read, 120000},
+                 {"read, old length", read_old, 120000}, {"fill", fill, 12000}, {"pad", pad, 2000}, {"extend", extend, 2000}, {"check", check, 2000}};
+    int failed = 0;
+    for (int i = 0; i < 15; i++) challenges[i] = (uint64_t)(1000 + 77 * i);
+    size_t thread = taken(nothing);
+    printf("stack in bytes:");
+    for (size_t i = 0; i < sizeof calls / sizeof *calls; i++) {
+        size_t took = taken(calls[i].call) - thread;
+        int fine = number == 0 && took <= calls[i].most;
+        if (calls[i].call == write) memcpy(old, bytes, 8 + 17 * PLACES), old[8 + 17 * PLACES] = 1;
+        printf(" %s %zu%s", calls[i].name, took, fine ? "" : " (TOO MUCH, or refused)");
+        failed |= !fine;
+    }
+    printf("\n");
+    return failed;
+}
