@@ -49,7 +49,7 @@ enum {
     U32_TABLE_DONE = 0,
     U32_TABLE_SHAPE = 1,      /* an array has the wrong length, or sizes are out of range */
     U32_TABLE_STRANGER = 2,   /* an opcode that is none of the six */
-    U32_TABLE_WIDE = 3,       /* an operand outside its range */
+    U32_TABLE_WIDE = 3,       /* an operand outside its range; the left one of pow has none but in stored bytes */
     U32_TABLE_BARE_LOG = 4,   /* log_2_floor of 0 */
     U32_TABLE_COUNT_FULL = 5, /* a multiplicity above U32_TABLE_P - 1; in recording, if one more would pass that */
     U32_TABLE_LIST_FULL = 6,  /* a new key and no unused place; in reading, more entries than places */
@@ -120,16 +120,20 @@ enum {
  * key_words has to be 3 * capacity and `places` has to be `capacity`; used is at most capacity, and capacity at most 2,048. Anything
  * else is U32_TABLE_SHAPE.
  *
- * An entry is admitted if its opcode is one of the six, both operands are below 2^32 (but the left one of pow below U32_TABLE_P), and
- * the left one of log_2_floor is not 0. */
+ * An entry is admitted if its opcode is one of the six, both operands are below 2^32 (but the left one of pow), and the left one of log_2_floor is
+ * not 0. The left operand of pow is any word and is taken modulo U32_TABLE_P; in stored bytes it is below it. So a key of pow counts as its
+ * reduced form wherever keys are equal or not, are filled, planned or written, also where the caller put a word of U32_TABLE_P or more among the
+ * keys. */
 
-/* Records an entry: the first equal key's multiplicity gains one; else the key is appended, with multiplicity 1.
+/* Records an entry: the first equal key's multiplicity gains one, and its words stay as they are; else the key is appended, reduced, with
+ * multiplicity 1.
  * Answers: the key's position, from 0; the places used afterwards, which is what to pass as `used` from then on.
  * Refusals, in this order: SHAPE; STRANGER; WIDE; BARE_LOG; then COUNT_FULL or LIST_FULL. */
 uint64_t u32_table_record(size_t capacity, size_t used, uint64_t *keys, size_t key_words, uint64_t *multiplicities, size_t places,
                           uint64_t opcode, uint64_t left_operand, uint64_t right_operand, uint64_t *answers, size_t answer_words);
 
-/* Compares two entries by opcode, then left operand, then right operand, whatever words they are.
+/* Compares two entries by opcode, then left operand, then right operand, whatever words they are, and as they are: two words of one base of pow
+ * are not equal here.
  * Answers: U32_TABLE_LESS, U32_TABLE_EQUAL or U32_TABLE_GREATER.
  * Refusals: SHAPE, for `answers` alone. */
 uint64_t u32_table_compare(uint64_t opcode, uint64_t left_operand, uint64_t right_operand, uint64_t other_opcode,
@@ -153,13 +157,16 @@ uint64_t u32_table_plan(size_t capacity, size_t used, const uint64_t *keys, size
  * example `and 3, 1` with multiplicity 2^32 + 2, 33 bytes, cut to 29 is read with multiplicity 2. Software that knows the old form alone refuses
  * lists of the new length with TORN.
  *
+ * Each operand is taken as it stands: a left operand of pow that is U32_TABLE_P or more is WIDE, so a list has one stored form.
+ *
  * Answers: N.
  * Refusals, in this order: SHAPE; TORN; LIST_FULL; then entry by entry STRANGER, WIDE, BARE_LOG, COUNT_FULL; REPEAT; TALLY. */
 uint64_t u32_table_read(const uint8_t *bytes, size_t byte_count, size_t capacity, size_t used, uint64_t *keys, size_t key_words,
                         uint64_t *multiplicities, size_t places, uint64_t *answers, size_t answer_words);
 
 /* Writes a list as bytes from the start of `out`: 4 bytes number of entries, 4 bytes height, then for each entry opcode (1 byte), left
- * operand (8) and right operand (8), then the multiplicities (8 each), all little-endian. Bytes of `out` past the end keep their values.
+ * operand (8), reduced for pow, and right operand (8), then the multiplicities (8 each), all little-endian. Bytes of `out` past the end keep
+ * their values. Read again, the keys are the reduced ones.
  * Answers: the number of bytes written, U32_TABLE_STORED_BYTES(used).
  * Refusals, in this order: SHAPE; then entry by entry STRANGER, WIDE, BARE_LOG, COUNT_FULL; REPEAT; SHORT. */
 uint64_t u32_table_write(size_t capacity, size_t used, const uint64_t *keys, size_t key_words, const uint64_t *multiplicities,

@@ -115,6 +115,8 @@ def text(challenges, entries):
     """What u32list prints for a list of admitted entries that is stored whole."""
     if len(entries) > 2048:
         return "refused 10\n"
+    if any(opcode == POW and lhs >= P for opcode, lhs, _ in entries):
+        return "refused 3\n"
     if max(entries.values(), default=0) >= P:
         return "refused 5\n"
     rows, table = padded_table(entries)
@@ -171,6 +173,8 @@ def samples():
     yield "count-past-four-bytes", PLAIN, {(AND, 3, 1): 2**32 + 2}
     yield "count-at-the-limit", PLAIN, {(AND, 3, 1): P - 1}
     yield "count-above-it", PLAIN, {(AND, 3, 1): P}
+    yield "base-below-p", PLAIN, {(POW, P - 1, 3): 2}
+    yield "base-of-p", PLAIN, {(POW, P, 3): 2}
     yield "a-200-samples", drawn(200), second(200, 25)
     yield "a-400-samples", drawn(400), second(400, 37)
     yield "a-400-samples-at-the-limit", drawn(400), filled_up(second(400, 37), 512)

@@ -2,7 +2,7 @@
 """Turns stored vectors into the number files that the vectors_* programs run.
 
     tools/vectors.py CALLS.jsonl field > crates/vectors_field/stdin
-    tools/vectors.py CALLS.jsonl lists tests/vectors/request-09.jsonl tests/vectors/recorded-lists.jsonl > crates/vectors_lists/stdin
+    tools/vectors.py CALLS.jsonl lists tests/vectors/request-07.jsonl tests/vectors/recorded-lists.jsonl > crates/vectors_lists/stdin
     tools/vectors.py CALLS.jsonl tables tests/vectors/filled-tables.jsonl > crates/vectors_table/stdin
     tools/vectors.py CALLS.jsonl checks tests/vectors/named-tables.jsonl > crates/vectors_check/stdin
 
@@ -12,7 +12,7 @@ e65f32c3547678d5451e727d1a89fd549fd06f80933a5a21b3a08bb4a43565f0. From that file
 crates/vectors_text/stdin is packed by tests/pack-cases from cases that came from outside too, and vectors_digests makes its own input. Further files of the
 same form are read after it: request-NN.jsonl has calls as change request NN has them, and the calls of CALLS.jsonl that a request answers
 otherwise are left out; the others in tests/vectors have the original Rust's answers (tools/filled_tables.py, tools/named_tables.py and
-tools/recorded_lists.py make them). request-09.jsonl has those calls of the request's file that take at most 6,000 characters, and the shortest one of
+tools/recorded_lists.py make them). request-07.jsonl has those calls of the request's file that take at most 6,000 characters, and the shortest one of
 each call and answer that would have none. What the vectors leave out, and edges, are added here; their answers are computed by the few lines of
 arithmetic below, which share nothing with the library. A number file is decimal numbers; the first of each line is the kind of the line.
 """
@@ -279,12 +279,13 @@ def list_edges():
             (1, 2**32, False),
             (2**32, 1, opcode == 30),
             (P - 1, 1, opcode == 30),
-            (P, 1, False),
-            (2**64 - 1, 1, False),
+            (P, 1, opcode == 30),
+            (2**64 - 1, 1, opcode == 30),
+            (2**64 - 1, 2**32, False),
         ]:
             entry = [opcode, lhs, rhs]
             if fine:
-                recorded(0, 2, 0, *empty, entry, entry + [0] * 3, [1, 0], 1)
+                recorded(0, 2, 0, *empty, entry, [opcode, lhs % P, rhs] + [0] * 3, [1, 0], 1)
             else:
                 refused_recording(3, 2, 0, *empty, entry)
     for opcode in (0, 1, 3, 5, 7, 13, 15, 29, 31, 4 + 2**32, P + 4, 2**64 - 1):
@@ -311,11 +312,58 @@ def list_edges():
         planned(1, 1, [6, 1, 2], [count], [5, 0, 0])
 
 
+# Bases of pow as they come: LHS is taken modulo p, but in stored bytes
+def base_edges():
+    raw, reduced = [30, P + 5, 2], [30, 5, 2]
+    for lhs in (0, 1, 40, 2**32 - 2):
+        for first in (lhs, lhs + P):
+            for second in (lhs, lhs + P):
+                keys = [30, first, 2, 9, 9, 9]
+                recorded(0, 2, 1, keys, [7, 3], [30, second, 2], keys, [8, 3], 1)
+                recorded(1, 2, 1, keys, [7, 3], [30, second, 3], keys[:3] + [30, lhs, 3], [7, 1], 2)
+                for room in (0, 58):
+                    line(5, [2, 2], array([30, first, 2, 30, second, 2]), array([1, 1]), array([9] * room), [11, 0], [9] * room)
+    # one more than the largest base that two words stand for, and a key of another opcode with these words
+    recorded(1, 2, 1, [30, 2**32 - 1, 2, 9, 9, 9], [7, 3], [30, 0, 2], [30, 2**32 - 1, 2, 30, 0, 2], [7, 1], 2)
+    recorded(1, 2, 1, [6, P + 5, 2, 9, 9, 9], [7, 3], [6, 5, 2], [6, P + 5, 2, 6, 5, 2], [7, 1], 2)
+    # past the first eight places: the word, or the word plus p
+    for n in (9, 16, 17):
+        for place in range(n):
+            for word, given in ((5, P + 5), (P + 5, 5)):
+                keys = [w for i in range(n) for w in ([30, word, 2] if i == place else [30, 100 + i, 2])]
+                recorded(place, n, n, keys, [1] * n, [30, given, 2], keys, [2 if i == place else 1 for i in range(n)], n)
+    refused_recording(5, 1, 1, raw, [P - 1], reduced)
+    refused_recording(6, 1, 1, raw, [1], [30, 6, 2])
+    refused_recording(3, 1, 1, raw, [1], [30, P, 2**32])
+    refused_recording(3, 1, 1, raw, [1], [12, P, 0])
+    planned(2, 2, raw + reduced, [7, 1], [0, 6, 256])
+    planned(1, 1, [30, 2**64 - 1, 2**32 - 1], [0], [0, 33, 256])
+    planned(2, 2, raw + [5, 0, 0], [1, 1], [2, 0, 0])
+    planned(1, 1, [30, P, 2**32], [1], [3, 0, 0])
+    # written reduced; in stored bytes 3, entry by entry
+    data = stored([(reduced, 7)])
+    line(5, [1, 1], array(raw), array([7]), array([9] * 40), [0, 33], data + [9] * 7)
+    reading(data, 1, [(reduced, 7)])
+    for entries, due in [
+        ([([30, P - 1, 0], 1)], [([30, P - 1, 0], 1)]),
+        ([([30, P, 0], 1)], 3),
+        ([(raw, 1)], 3),
+        ([([30, 2**64 - 1, 0], 1)], 3),
+        ([([30, P, 0], 1), ([5, 0, 0], 1)], 3),
+        ([([5, 0, 0], 1), ([30, P, 0], 1)], 2),
+        ([([30, P, 0], P), ([5, 0, 0], 1)], 3),
+        ([(reduced, 1), (raw, 1)], 3),
+    ]:
+        reading(stored(entries), 2, due)
+        reading(stored(entries, 4) if max(count for _, count in entries) < P else stored(entries), 2, due)
+
+
 def lists(calls):
     for call in calls:
         list_line(call)
     list_edges()
     stored_edges()
+    base_edges()
 
 
 # ---- tables
@@ -378,7 +426,13 @@ def changed(call):
         if which == "record":
             return next(counts[i] for i in places if keys[3 * i : 3 * i + 3] == ints(numbers["entry"])) < P - 1
         return max(counts[i] for i in places) < P
-    # .. a list of N entries is written to 8 + 25 N bytes, and read from as many
+    # request 7: LHS of pow is taken modulo p, but in reading
+    if kind == "refused" and int(value) == 3 and which in ("record", "plan", "fill", "write"):
+        keys, used = ints(numbers["keys"]), int(numbers["used"])
+        entries = [ints(numbers["entry"])] if which == "record" else [keys[3 * i : 3 * i + 3] for i in range(used)]
+        opcode, lhs, rhs = next(e for e in entries if max(e[1], e[2]) >= 2**32 and (e[0] != 30 or e[1] >= P or e[2] >= 2**32))
+        return opcode == 30 and rhs < 2**32
+    # request 9: a list of N entries is written to 8 + 25 N bytes, and read from as many
     if which == "write" and kind == "ok":
         return int(value) != 8
     if which == "read" and kind == "refused" and int(value) == 10:

@@ -97,7 +97,8 @@ static void lists(void) {
     REFUSED(u32_table_record(PLACES, 2, keys, 3 * PLACES, multiplicities, PLACES, 4, 0, 0, answers, 1), U32_TABLE_SHAPE);
     REFUSED(record(2, 5, pow2_32, 0), U32_TABLE_STRANGER);
     REFUSED(record(2, U32_TABLE_LOG_2_FLOOR, 0, pow2_32), U32_TABLE_WIDE);
-    REFUSED(record(2, U32_TABLE_POW, U32_TABLE_P, 0), U32_TABLE_WIDE);
+    REFUSED(record(2, U32_TABLE_POW, U32_TABLE_P, pow2_32), U32_TABLE_WIDE);
+    REFUSED(record(2, U32_TABLE_LT, 0, U32_TABLE_P), U32_TABLE_WIDE);
     REFUSED(record(2, U32_TABLE_LOG_2_FLOOR, 0, 0), U32_TABLE_BARE_LOG);
     multiplicities[1] = U32_TABLE_P - 1;
     REFUSED(record(2, U32_TABLE_LT, 2, 3), U32_TABLE_COUNT_FULL);
@@ -105,6 +106,20 @@ static void lists(void) {
     DONE(record(2, U32_TABLE_LT, 2, 3), 2, 1, 2);
     expect("past 32 bits", multiplicities[1], pow2_32);
     multiplicities[1] = 1;
+    /* pow with any base: the key is the reduced one, both words are one key, and a raw key keeps its words */
+    DONE(record(2, U32_TABLE_POW, UINT64_MAX, 5), 2, 2, 3);
+    expect("reduced", keys[7], pow2_32 - 2);
+    DONE(record(3, U32_TABLE_POW, pow2_32 - 2, 5), 2, 2, 3);
+    expect("one key", multiplicities[2], 2);
+    keys[7] = UINT64_MAX;
+    DONE(record(3, U32_TABLE_POW, pow2_32 - 2, 5), 2, 2, 3);
+    expect("a raw key stays", keys[7] == UINT64_MAX && multiplicities[2] == 3, 1);
+    DONE(plan(3), 2, 10, 256);
+    put(3, U32_TABLE_POW, pow2_32 - 2, 5, 1);
+    REFUSED(write(4, 0), U32_TABLE_REPEAT);
+    DONE(write(3, sizeof bytes), 1, U32_TABLE_STORED_BYTES(3));
+    DONE(read(U32_TABLE_STORED_BYTES(3)), 1, 3);
+    expect("reads back reduced", keys[7] == pow2_32 - 2 && multiplicities[2] == 3, 1);
     DONE(record(2, U32_TABLE_POW, U32_TABLE_P - 1, 5), 2, 2, 3);
     DONE(record(3, U32_TABLE_POP_COUNT, pow2_32 - 1, 0), 2, 3, 4);
     REFUSED(record(4, U32_TABLE_SPLIT, 0, 0), U32_TABLE_LIST_FULL);
@@ -162,7 +177,9 @@ static void lists(void) {
     REFUSED(read(full), U32_TABLE_STRANGER);
     bytes[8] = 14, bytes[9 + 7] = 1;
     REFUSED(read(full), U32_TABLE_WIDE);
-    bytes[9 + 7] = 0, bytes[8] = 12, bytes[9] = 0;
+    bytes[9 + 7] = 0, bytes[9 + 17 * 2] = 1;
+    REFUSED(read(full), U32_TABLE_WIDE); /* p as the base of pow */
+    bytes[9 + 17 * 2] = 0, bytes[8] = 12, bytes[9] = 0;
     REFUSED(read(full), U32_TABLE_BARE_LOG);
     bytes[8] = 6, bytes[9] = 2, bytes[17] = 3;
     REFUSED(read(full), U32_TABLE_REPEAT);

@@ -7,12 +7,13 @@ use crate::{constraints, sys, Opcode, Refusal, KEY_WORDS};
 
 /// An executed instruction with its operands. Any words may stand in it: recording admits it or refuses it.
 ///
-/// Entries are ordered by opcode, then left operand, then right operand.
+/// Entries are ordered by opcode, then left operand, then right operand, and equal where these words are. Two words of one base of pow are not
+/// equal here, but recording and writing take them for one key.
 #[derive(Clone, Copy, Debug, PartialEq, Eq, Hash)]
 pub struct Entry {
     /// The word of an [`Opcode`], for an entry that is admitted.
     pub opcode: u64,
-    /// Below 2^32; for pow below [`P`](crate::P); for log_2_floor not 0.
+    /// Below 2^32; for log_2_floor not 0. For pow any word, taken modulo [`P`](crate::P); in stored bytes it is below it.
     pub left_operand: u64,
     /// Below 2^32.
     pub right_operand: u64,
@@ -188,14 +189,20 @@ pub fn compare(entry: Entry, other: Entry) -> Ordering {
 /// Records an entry: the first equal key's multiplicity gains one; else the key is appended with multiplicity 1, and `sizes.used` is one
 /// more. The answer is the key's position, from 0.
 ///
+/// The left operand of pow is taken modulo [`P`](crate::P), in the entry and in the keys: two words of one base are one key, what is appended is
+/// below [`P`](crate::P), and a key that gains keeps its words.
+///
 /// Refusals, in this order: shape, stranger, wide, bare log, then count full or list full.
 ///
 /// ```
-/// use u32_table::{opcodes::AND, record, Entry, Sizes};
+/// use u32_table::{opcodes::{AND, POW}, record, Entry, Sizes, P};
 /// let (mut sizes, mut keys, mut multiplicities) = (Sizes { capacity: 2, used: 0 }, [0; 6], [0; 2]);
 /// assert_eq!(record(&mut sizes, &mut keys, &mut multiplicities, Entry::new(AND, 3, 1)), Ok(0));
 /// assert_eq!(record(&mut sizes, &mut keys, &mut multiplicities, Entry::new(AND, 3, 1)), Ok(0));
 /// assert_eq!((sizes.used, keys, multiplicities), (1, [14, 3, 1, 0, 0, 0], [2, 0]));
+/// assert_eq!(record(&mut sizes, &mut keys, &mut multiplicities, Entry::new(POW, P + 5, 2)), Ok(1));
+/// assert_eq!(record(&mut sizes, &mut keys, &mut multiplicities, Entry::new(POW, 5, 2)), Ok(1));
+/// assert_eq!((sizes.used, keys, multiplicities), (2, [14, 3, 1, 30, 5, 2], [2, 2]));
 /// ```
 pub fn record(sizes: &mut Sizes, keys: &mut [u64], multiplicities: &mut [u64], entry: Entry) -> Result<usize, Refusal> {
     let mut answers = [0; 2];
@@ -273,7 +280,7 @@ pub fn refused_entry(sizes: Sizes, keys: &[u64], multiplicities: &[u64]) -> Opti
 /// assert_eq!(multiplicities, [2]);
 /// ```
 ///
-/// A call takes 118,000 bytes of stack.
+/// Each operand is taken as it stands: a left operand of pow that is [`P`](crate::P) or more is refused as wide, so a list has one stored form.
 ///
 /// Refusals, in this order: shape; torn; list full; then entry by entry stranger, wide, bare log, count full; repeat; tally.
 ///
@@ -286,7 +293,8 @@ pub fn read(bytes: &[u8], sizes: &mut Sizes, keys: &mut [u64], multiplicities: &
 }
 
 /// Writes a list as bytes from the start of `out`; the answer is how many, [`stored_bytes`](crate::stored_bytes) of the places used. Later
-/// bytes keep their values.
+/// bytes keep their values. The left operand of pow is written modulo [`P`](crate::P), so the list reads back reduced, and two words of one base
+/// are equal keys.
 ///
 /// Refusals, in this order: shape; then entry by entry stranger, wide, bare log, count full; repeat; short.
 ///

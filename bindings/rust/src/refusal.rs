@@ -65,7 +65,7 @@ refusals! {
     1 Shape "shape",
     /// An opcode that is none of the six.
     2 Stranger "stranger",
-    /// An operand outside its range.
+    /// An operand outside its range. The left one of pow has none, but in stored bytes it is below [`P`](crate::P).
     3 Wide "wide",
     /// log_2_floor of 0.
     4 BareLog "bare log",

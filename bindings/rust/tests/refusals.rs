@@ -83,7 +83,8 @@ fn record_refuses() {
     cases.extend([
         (fine.clone(), Entry::new(5, WIDE, 0), Stranger),
         (fine.clone(), Entry::new(LOG_2_FLOOR, 0, WIDE), Wide),
-        (fine.clone(), Entry::new(POW, P, 0), Wide),
+        (fine.clone(), Entry::new(POW, P, WIDE), Wide),
+        (fine.clone(), Entry::new(LT, 0, P), Wide),
         (fine.clone(), Entry::new(LT, WIDE, 0), Wide),
         (fine.clone(), Entry::new(LOG_2_FLOOR, 0, 0), BareLog),
         (full.clone(), Entry::new(AND, 3, 1), CountFull),

@@ -1,3 +1,4 @@
 pub mod ListSections
 pub mod Fillings
 pub mod Paddings
+pub mod FilledAlike

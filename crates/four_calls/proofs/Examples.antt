@@ -15,7 +15,7 @@ use Rattle.words.specs.declared.Judgement.the-variants.{Fine}
 use Rattle.isa.specs.Opcodes.{opLt, opLog2Floor, opPopCount, opPow, isOpcode}
 use Rattle.isa.specs.PlainFunctions.{plainLt, floorLog2, plainPow, oneBits, plainResult}
 use Rattle.isa.specs.declared.U32TableEntry.{U32TableEntry}
-use Rattle.isa.specs.Entries.{lhs, rhs, entry, judgeEntry, admitted, dominant, heightOf, height}
+use Rattle.isa.specs.Entries.{lhs, rhs, entry, judgeAsItIs, judgeEntry, admitted, dominant, heightOf, height}
 use Rattle.isa.proofs.Entries.{Admissible, fine-admissible}
 use Rattle.list.specs.Lists.{U32List, keyAt, multiplicityAt, entryAt, listShape, countFull, judgeEntryBy, judgePlaceBy, judgeList}
 use Rattle.list.specs.Heights.{getsSection, sectionPlacesTo, sectionPlaces, entriesAt, sumHeights, listHeight}
@@ -61,6 +61,7 @@ unfolding
     judgePlaceBy
     judgeEntryBy
     judgeEntry
+    judgeAsItIs
     isOpcode
     keyAt
     multiplicityAt
@@ -109,7 +110,7 @@ padding-lt = record {
 
 -- ---- the theorem
 pub twelve-examples : (length examples ≡ 12) × AllHold examples
-unfolding height heightOf dominant judgeEntry isOpcode admitted plainResult plainLt plainPow floorLog2 oneBits
+unfolding height heightOf dominant judgeEntry judgeAsItIs isOpcode admitted plainResult plainLt plainPow floorLog2 oneBits
 twelve-examples = (
   refl,
   (

@@ -1,12 +1,13 @@
--- Laws of entries: what admission tells of the entry that it hands back, its height, and how heights fall as operands are halved
--- (Comparing.antt has the laws of order). They are said of `admitted e` and of what `judgeEntry` finds, so that callers need not know which entry
--- admission hands back.
+-- Laws of entries: what admission hands back (LHS of pow modulo p: pow-admits; all else as it is: admitted-same), what it tells of that entry,
+-- its height, and how heights fall as operands are halved (Comparing.antt has the laws of order). Callers use what is said of `admitted e` and of
+-- what `judgeEntry` finds; only the search of a list asks which words stand for one LHS (lhs-words).
 use mathlib.Core.Path.{_≡_, refl, sym, ap, _∙_}
 use mathlib.Core.Bool.{Bool, true, false, cond, not, _&&_, _||_}
 use mathlib.Core.Logic.{_≢_, _⊎_, inl, inr}
-use Prim.Native.Nat.{ℕ, suc, _/_, _≤_, _<_, max}
+use Prim.Native.Nat.{ℕ, suc, _+_, _/_, _%_, _≤_, _<_, max}
+use native.Mathlib.Nat.{mod-eq-of-lt, mod-lt}
 use native.Mathlib.Omega.{arith}
-use borrow.Author.Tests.{lt-ltb, eq-eqb, ne-eqb, ltb-true, eqb-true, eqb-false}
+use borrow.Author.Tests.{lt-ltb, le-ltb, eq-eqb, ne-eqb, ltb-true, ltb-false, eqb-true, eqb-false}
 use lib.Dec.{eqb, ltb}
 use Rattle.field.specs.Elements.{p}
 use Rattle.words.specs.declared.Refusal.{Refusal}
@@ -18,7 +19,7 @@ use Rattle.words.proofs.Judgements.{decline-fine, decline-not-fine, decline-not
 use Rattle.isa.specs.Opcodes.{opSplit, opLt, opLog2Floor, opAnd, opPopCount, opPow, isOpcode}
 use Rattle.isa.specs.declared.U32TableEntry.{U32TableEntry}
 use Rattle.isa.specs.declared.Admission.the-variants.{Admitted, Refused}
-use Rattle.isa.specs.Entries.{lhs, rhs, entry, lhsLimit, rhsLimit, judgeEntry, admitStored, admitted, admission, admit, dominant, heightOf, height}
+use Rattle.isa.specs.Entries.{lhs, rhs, entry, lhsLimit, rhsLimit, judgeAsItIs, judgeEntry, admitStored, admitted, admission, admit, dominant, heightOf, height}
 use Rattle.isa.proofs.Logarithm.{height-zero, height-half, height-below, height-positive}
 
 -- ---- opcodes
@@ -96,16 +97,16 @@ not-both false t h e = absurd (let z : _≡_ {A = ℕ} 0 1 = cc in omega arith)
 
 -- 2, then 3, then 4
 reasons : (e : U32TableEntry)
-    → judgeEntry e
+    → judgeAsItIs e
     ≡ orElse (declineIf (not (isOpcode (e .opcode))) Stranger)
     (orElse (declineIf (not (ltb (lhs e) (lhsLimit (e .opcode)) && ltb (rhs e) rhsLimit)) Wide)
     (declineIf (eqb (e .opcode) opLog2Floor && eqb (lhs e) 0) BareLog))
-unfolding judgeEntry
+unfolding judgeAsItIs
 reasons e = refl
 
-pub fine-admissible : (e : U32TableEntry) → judgeEntry e ≡ Fine → Admissible (admitted e)
-unfolding admitted
-fine-admissible e f =
+-- an entry is judged fine as it stands exactly where it is admissible
+pub judged-admissible : (e : U32TableEntry) → judgeAsItIs e ≡ Fine → Admissible e
+judged-admissible e f =
     let a = or-both _ _ (sym (reasons e) ∙ f) in
     let b = or-both _ _ (a .1) in
     let w = both (ltb (lhs e) (lhsLimit (e .opcode))) (ltb (rhs e) rhsLimit) (decline-not-fine _ _ (b .0)) in
@@ -117,8 +118,8 @@ fine-admissible e f =
       log = λ k. eqb-false _ _ (not-both (eqb (e .opcode) opLog2Floor) (eqb (lhs e) 0) l (eq-eqb _ _ k));
     }
 
-pub admissible-fine : (e : U32TableEntry) → Admissible e → judgeEntry e ≡ Fine
-admissible-fine e a =
+pub admissible-judged : (e : U32TableEntry) → Admissible e → judgeAsItIs e ≡ Fine
+admissible-judged e a =
     reasons e
     ∙ or-next _ (decline-not-true _ (a .known))
     ∙ or-next _ (decline-not-true _ (and-true (lt-ltb (lhs e) (lhsLimit (e .opcode)) (a .left)) (lt-ltb (rhs e) rhsLimit (a .right))))
@@ -128,20 +129,57 @@ admissible-fine e a =
     bare true k = ne-eqb (lhs e) 0 (a .log (eqb-true _ _ k))
     bare false k = refl
 
--- an entry that is admissible is handed back as it is
-pub admissible-same : (e : U32TableEntry) → Admissible e → admitted e ≡ e
+-- ---- what admission hands back
+
+pub admitted-pow : (e : U32TableEntry) → e .opcode ≡ opPow → admitted e ≡ entry (e .opcode) (lhs e % p) (rhs e)
 unfolding admitted
-admissible-same e a = refl
+admitted-pow e k = rw (eq-eqb (e .opcode) opPow k)
+
+pub admitted-other : (e : U32TableEntry) → e .opcode ≢ opPow → admitted e ≡ e
+unfolding admitted
+admitted-other e k = rw (ne-eqb (e .opcode) opPow k)
+
+-- an entry is handed back as it is where LHS of pow is below p
+pub admitted-same : (e : U32TableEntry) → (e .opcode ≡ opPow → lhs e < p) → admitted e ≡ e
+admitted-same e h = go (eqb (e .opcode) opPow) refl where
+  go : (t : Bool) → eqb (e .opcode) opPow ≡ t → admitted e ≡ e
+  go true k =
+      admitted-pow e (eqb-true _ _ k)
+      ∙ ap (λ (n : ℕ). entry (e .opcode) n (rhs e)) (mod-eq-of-lt (h (eqb-true _ _ k)))
+  go false k = admitted-other e (eqb-false _ _ k)
+
+-- a word is the LHS that is handed back, or of pow that plus p: 2^64 is below twice p
+pub lhs-words : (e : U32TableEntry) → lhs e < 18446744073709551616
+    → (lhs e ≡ lhs (admitted e)) ⊎ ((e .opcode ≡ opPow) × (lhs e ≡ lhs (admitted e) + p))
+lhs-words e h = go (eqb (e .opcode) opPow) refl where
+  go : (t : Bool) → eqb (e .opcode) opPow ≡ t → (lhs e ≡ lhs (admitted e)) ⊎ ((e .opcode ≡ opPow) × (lhs e ≡ lhs (admitted e) + p))
+  go true k = rw (admitted-pow e (eqb-true _ _ k)) (word (ltb (lhs e) p) refl) where
+    word : (s : Bool) → ltb (lhs e) p ≡ s → (lhs e ≡ lhs e % p) ⊎ ((e .opcode ≡ opPow) × (lhs e ≡ lhs e % p + p))
+    word true q = let b = ltb-true (lhs e) p q in inl (omega arith)
+    word false q = let b = ltb-false (lhs e) p q in inr (eqb-true _ _ k, omega arith)
+  go false k = inl (ap (λ (x : U32TableEntry). lhs x) (sym (admitted-other e (eqb-false _ _ k))))
+
+pub admissible-same : (e : U32TableEntry) → Admissible e → admitted e ≡ e
+admissible-same e a = admitted-same e (λ k. omega (arith, a .left, limit-pow k))
+
+pub fine-admissible : (e : U32TableEntry) → judgeEntry e ≡ Fine → Admissible (admitted e)
+unfolding judgeEntry
+fine-admissible e f = judged-admissible (admitted e) f
+
+pub admissible-fine : (e : U32TableEntry) → Admissible e → judgeEntry e ≡ Fine
+unfolding judgeEntry
+admissible-fine e a = ap judgeAsItIs (admissible-same e a) ∙ admissible-judged e a
 
 -- the rule of stored bytes finds nothing exactly where the entry is admissible as it stands
 pub as-it-is-admissible : (e : U32TableEntry) → admitStored e ≡ Fine → Admissible e
-unfolding admitStored admitted
-as-it-is-admissible e f = fine-admissible e f
+unfolding admitStored
+as-it-is-admissible e f = judged-admissible e f
 
 pub admissible-as-it-is : (e : U32TableEntry) → Admissible e → admitStored e ≡ Fine
 unfolding admitStored
-admissible-as-it-is e a = admissible-fine e a
+admissible-as-it-is e a = admissible-judged e a
 
+-- what is fine as it stands in stored bytes is admitted, and handed back as it is
 pub as-it-is : (e : U32TableEntry) → admitStored e ≡ Fine → (judgeEntry e ≡ Fine) × (admitted e ≡ e)
 as-it-is e f = let a = as-it-is-admissible e f in (admissible-fine e a, admissible-same e a)
 
@@ -149,24 +187,24 @@ module _ (e : U32TableEntry) where
   -- opcode and RHS stay, whatever is handed back
   pub opcode-admitted : admitted e .opcode ≡ e .opcode
   unfolding admitted
-  opcode-admitted = refl
+  opcode-admitted = go (eqb (e .opcode) opPow) where
+    go : (t : Bool) → cond t (entry (e .opcode) (lhs e % p) (rhs e)) e .opcode ≡ e .opcode
+    go true = refl
+    go false = refl
 
   pub rhs-admitted : rhs (admitted e) ≡ rhs e
   unfolding admitted
-  rhs-admitted = refl
-
-  -- and LHS, since the same entry is handed back
-  pub lhs-admitted : lhs (admitted e) ≡ lhs e
-  unfolding admitted
-  lhs-admitted = refl
+  rhs-admitted = go (eqb (e .opcode) opPow) where
+    go : (t : Bool) → rhs (cond t (entry (e .opcode) (lhs e % p) (rhs e)) e) ≡ rhs e
+    go true = refl
+    go false = refl
 
   -- what is handed back is itself admitted, as it is
   pub judge-admitted : judgeEntry e ≡ Fine → judgeEntry (admitted e) ≡ Fine
   judge-admitted f = admissible-fine (admitted e) (fine-admissible e f)
 
   pub admitted-again : judgeEntry e ≡ Fine → admitted (admitted e) ≡ admitted e
-  unfolding admitted
-  admitted-again f = refl
+  admitted-again f = admissible-same (admitted e) (fine-admissible e f)
 
   pub admit-fine : judgeEntry e ≡ Fine → admit e ≡ Admitted (admitted e)
   unfolding admit
@@ -192,6 +230,24 @@ module _ (e : U32TableEntry) where
   pub admit-refused : {k : Refusal} → admit e ≡ Refused k → judgeEntry e ≡ Declined k
   unfolding admit
   admit-refused f = admission-refused (judgeEntry e) f
+
+-- ---- what the two rules do to pow: "Admission of an entry should take LHS of pow modulo p and hand back the reduced entry", and
+-- "A stored list with LHS of p or more still gives 3"
+
+pow-fine : (l r : ℕ) → l < p → r < rhsLimit → Admissible (entry opPow l r)
+unfolding isOpcode
+pow-fine l r h k = record { known = refl; left = h; right = k; log = λ e. absurd (omega arith) }
+
+pub pow-admits : (l r : ℕ) → r < rhsLimit → admit (entry opPow l r) ≡ Admitted (entry opPow (l % p) r)
+unfolding judgeEntry
+pow-admits l r k =
+    let e = entry opPow l r in
+    let same : admitted e ≡ entry opPow (l % p) r = admitted-pow e refl in
+    admit-fine e (ap judgeAsItIs same ∙ admissible-judged _ (pow-fine (l % p) r (mod-lt l (omega arith)) k)) ∙ ap Admitted same
+
+pub pow-stored : (l r : ℕ) → p ≤ l → admitStored (entry opPow l r) ≡ Declined Wide
+unfolding admitStored isOpcode
+pow-stored l r h = reasons (entry opPow l r) ∙ rw (le-ltb l p h)
 
 -- ---- bounds on the words of an admissible entry
 

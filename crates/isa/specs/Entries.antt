@@ -1,5 +1,5 @@
 -- Entry and height (document 01, under that heading): admission, the height of an entry, the order of entries.
-use Prim.Native.Nat.{ℕ, _+_, max}
+use Prim.Native.Nat.{ℕ, _+_, _%_, max}
 use mathlib.Core.Bool.{cond, not, _&&_}
 use mathlib.Core.List.{List, [], _∷_}
 use lib.Dec.{eqb, ltb}
@@ -40,20 +40,24 @@ lhsLimit opcode = cond (eqb opcode opPow) p 4294967296
 abbrev pub rhsLimit : ℕ
 rhsLimit = 4294967296
 
--- "Admitted: both operands below 2^32, but LHS of pow below p; LHS of log_2_floor not 0." Refusals 2, 3, 4 in that order
-unfoldable pub judgeEntry : U32TableEntry → Judgement
-judgeEntry e =
+-- "both operands below 2^32, but LHS of pow below p; LHS of log_2_floor not 0": an entry as it stands. Refusals 2, 3, 4 in that order
+unfoldable pub judgeAsItIs : U32TableEntry → Judgement
+judgeAsItIs e =
     orElse (declineIf (not (isOpcode (e .opcode))) Stranger)
     (orElse (declineIf (not (ltb (lhs e) (lhsLimit (e .opcode)) && ltb (rhs e) rhsLimit)) Wide)
     (declineIf (eqb (e .opcode) opLog2Floor && eqb (lhs e) 0) BareLog))
 
--- The same for an entry in stored bytes, which is taken as it stands there: reading has a rule of its own name
-unfoldable pub admitStored : U32TableEntry → Judgement
-admitStored e = judgeEntry e
-
--- The entry that admission hands back: the same one
+-- The entry that admission hands back: "LHS of pow modulo p", all else as it is
 unfoldable pub admitted : U32TableEntry → U32TableEntry
-admitted e = e
+admitted e = cond (eqb (e .opcode) opPow) (entry (e .opcode) (lhs e % p) (rhs e)) e
+
+-- "Admission of an entry should take LHS of pow modulo p and hand back the reduced entry": it is the reduced entry that is judged
+unfoldable pub judgeEntry : U32TableEntry → Judgement
+judgeEntry e = judgeAsItIs (admitted e)
+
+-- "A stored list with LHS of p or more still gives 3": an entry in stored bytes is judged as it stands there
+unfoldable pub admitStored : U32TableEntry → Judgement
+admitStored e = judgeAsItIs e
 
 -- what is handed back after a rule's judgement
 abbrev pub admission : Judgement → U32TableEntry → Admission

@@ -5,7 +5,7 @@ ghost use mathlib.Core.Bool.{not, _&&_};
 ghost use lib.Dec.{ltb};
 ghost use Rattle.words.specs.declared.Refusal.the-variants.{Wide};
 ghost use Rattle.words.specs.Refusals.{declineIf};
-ghost use Rattle.isa.specs.Entries.{lhs, rhs, rhsLimit, entry, judgeEntry, admitStored, admitted, dominant, height, compareWords, compareEntries};
+ghost use Rattle.isa.specs.Entries.{lhs, rhs, rhsLimit, entry, judgeAsItIs, admitStored, admitted, dominant, height, compareWords, compareEntries};
 ghost use Rattle.isa.specs.Entries.{admission as Entries·admission, admit as Entries·admit};
 ghost use Rattle.isa.specs.PlainFunctions.{floorLog2};
 use field::BFieldElement;
@@ -24,7 +24,7 @@ pub const POP_COUNT: u64 = 28;
 
 pub const POW: u64 = 30;
 
-// Operands are below this, but the left one of pow is below p.
+// Operands are below this, but the left one of pow is taken modulo p.
 pub const OPERAND_LIMIT: u64 = 4294967296;
 
 // An executed U32 instruction with its operands; any words.
@@ -71,9 +71,9 @@ impl U32TableEntry {
         Judgement::Declined(Refusal::Wide)
     }
 
-    // The first of the reasons 2, 3, 4 against the entry.
+    // The first of the reasons 2, 3, 4 against the entry as it stands.
     pub fn judge(self) -> Judgement
-        ensures { λ r. ⌜ r ≡ judgeEntry self ⌝ }
+        ensures { λ r. ⌜ r ≡ judgeAsItIs self ⌝ }
     {
         let opcode = self.opcode;
         match opcode {
@@ -93,11 +93,19 @@ impl U32TableEntry {
         }
     }
 
-    // The entry that admission hands back: the same one.
+    // The entry that admission hands back: the left operand of pow is taken modulo p.
     pub fn reduced(self) -> Self
         ensures { λ r. ⌜ r ≡ admitted self ⌝ }
     {
-        Self::new(self.opcode, self.left_operand, self.right_operand)
+        let opcode = self.opcode;
+        if opcode == POW {
+            return Self {
+                opcode,
+                left_operand: BFieldElement::new(self.left_operand).0,
+                right_operand: self.right_operand,
+            };
+        }
+        self
     }
 
     // What is handed back after a judgement of the entry.
@@ -110,14 +118,14 @@ impl U32TableEntry {
         }
     }
 
-    // The entry as it is admitted, or why it is refused.
+    // The entry as it is admitted, or why it is refused: it is the reduced one that is judged.
     pub fn admit(self) -> Admission
         ensures { λ r. ⌜ r ≡ Entries·admit self ⌝ }
     {
-        self.admission(self.judge())
+        self.admission(self.reduced().judge())
     }
 
-    // The same for an entry in stored bytes, which has a rule of its own.
+    // The same for an entry in stored bytes, which is judged as it stands there.
     pub fn admit_stored(self) -> Admission
         ensures { λ r. ⌜ r ≡ Entries·admission (admitStored self) self ⌝ }
     {

@@ -3,21 +3,23 @@
 use Prim.Native.Nat.{ℕ, zero, suc, _+_, _*_, _-_, _≤_, _<_}
 use mathlib.Core.Path.{_≡_, refl, sym, ap, _∙_, subst}
 use mathlib.Core.Bool.{Bool, true, false, _&&_}
-use mathlib.Core.Logic.{_≢_, ⊎-elim}
+use mathlib.Core.Logic.{_≢_, _⊎_, inl, inr, ⊎-elim}
 use mathlib.Core.List.{List}
 use native.Mathlib.Nat.{eq-or-lt-of-le}
 use native.Mathlib.Omega.{arith}
 use native.Mathlib.Numerals.{add-one}
-use lib.Dec.{eqb}
+use lib.Dec.{eqb, ltb}
 use lib.ListN.{getD}
 use borrow.Author.Count.{below-none, below-more}
-use borrow.Author.Tests.{eqb-true, eq-eqb, ne-eqb}
+use borrow.Author.Tests.{eqb-true, eq-eqb, ne-eqb, lt-ltb, le-ltb}
 use Rattle.isa.specs.declared.U32TableEntry.{U32TableEntry}
-use Rattle.isa.specs.Entries.{lhs, rhs, entry, entryWidth}
-use Rattle.isa.proofs.Entries.{lhs-admitted}
+use Rattle.field.specs.Elements.{p}
+use Rattle.isa.specs.Opcodes.{opPow}
+use Rattle.isa.specs.Entries.{lhs, rhs, entry, entryWidth, admitted}
+use Rattle.isa.proofs.Entries.{opcode-admitted, rhs-admitted, lhs-words}
 use Rattle.list.specs.Lists.{U32List, used, keyAt, entryAt}
 use Rattle.list.specs.Keys.{sameKey, findFrom, findKey}
-use Rattle.list.specs.Eights.{EightDiffer}
+use Rattle.list.specs.Eights.{EightDiffer, otherWord}
 
 -- ---- equal keys
 
@@ -87,6 +89,33 @@ module _ (l : U32List) (e : U32TableEntry) where
 
 -- ---- eight places with another LHS are passed at once
 
+-- the cases of the other word
+pub other-word-fits : (e : U32TableEntry) → e .opcode ≡ opPow → lhs e < 4294967295 → otherWord e ≡ lhs e + p
+unfolding otherWord
+other-word-fits e k h = rw (eq-eqb (e .opcode) opPow k, lt-ltb (lhs e) 4294967295 h)
+
+pub other-word-past : (e : U32TableEntry) → e .opcode ≡ opPow → 4294967295 ≤ lhs e → otherWord e ≡ lhs e
+unfolding otherWord
+other-word-past e k h = rw (eq-eqb (e .opcode) opPow k, le-ltb (lhs e) 4294967295 h)
+
+pub other-word-none : (e : U32TableEntry) → e .opcode ≢ opPow → otherWord e ≡ lhs e
+unfolding otherWord
+other-word-none e k = rw (ne-eqb (e .opcode) opPow k)
+
+-- which words stand for LHS of the key e, at a place whose entry it is
+word-of : (x e : U32TableEntry) → lhs x < 18446744073709551616 → admitted x ≡ e → (lhs x ≡ lhs e) ⊎ (lhs x ≡ otherWord e)
+word-of x e h q =
+    ⊎-elim
+    (λ (k : lhs x ≡ lhs (admitted x)). inl (k ∙ ap (λ (y : U32TableEntry). lhs y) q))
+    (λ (k : (x .opcode ≡ opPow) × (lhs x ≡ lhs (admitted x) + p)).
+    let l : lhs x ≡ lhs e + p = k .1 ∙ ap (λ (y : U32TableEntry). lhs y + p) q in
+    let o : e .opcode ≡ opPow = ap (λ (y : U32TableEntry). y .opcode) (sym q) ∙ opcode-admitted x ∙ k .0 in
+    inr (l ∙ sym (other-word-fits e o (omega arith))))
+    (lhs-words x h)
+
+abbrev Words : List ℕ → Type 0
+Words keys = (j : ℕ) → getD keys j 0 < 18446744073709551616
+
 module _ (l : U32List) (e : U32TableEntry) where
   find-misses : (k i n : ℕ) → i + k ≤ n → ((j : ℕ) → j < k → sameKey (entryAt l (i + j)) e ≡ false)
       → findFrom l e i (n - i) ≡ findFrom l e (i + k) (n - (i + k))
@@ -96,21 +125,29 @@ module _ (l : U32List) (e : U32TableEntry) where
       ∙ find-miss l e (i + k) n (omega arith) (f k (omega arith))
       ∙ ap (λ (j : ℕ). findFrom l e j (n - j)) (omega arith)
 
-  -- Another word where LHS stands: another entry. This is the one place where it counts that admission leaves LHS as it is
-  differ-by-lhs : (i : ℕ) → getD (l .keys) (entryWidth * i + 1) 0 ≢ lhs e → sameKey (entryAt l i) e ≡ false
-  unfolding sameKey entryAt keyAt
-  differ-by-lhs i h =
-      go (eqb (entryAt l i .opcode) (e .opcode)) _ _ (ne-eqb (lhs (entryAt l i)) (lhs e) (λ q. h (sym (lhs-admitted (keyAt l i)) ∙ q)))
-    where
-      go : (t s r : Bool) → s ≡ false → (t && (s && r)) ≡ false
-      go true s r d = rw d
-      go false s r d = refl
+  -- neither word stands where LHS does: another entry
+  differ-by-lhs : Words (l .keys) → (i : ℕ)
+      → getD (l .keys) (entryWidth * i + 1) 0 ≢ lhs e → getD (l .keys) (entryWidth * i + 1) 0 ≢ otherWord e → sameKey (entryAt l i) e ≡ false
+  unfolding entryAt keyAt
+  differ-by-lhs w i f g = go (sameKey (entryAt l i) e) refl where
+    go : (t : Bool) → sameKey (entryAt l i) e ≡ t → sameKey (entryAt l i) e ≡ false
+    go true s = absurd (⊎-elim f g (word-of (keyAt l i) e (w (entryWidth * i + 1)) (same-key-equal (entryAt l i) e s)))
+    go false s = s
 
-  pub find-eight : (i next n : ℕ) → i + 8 ≡ next → next ≤ n → EightDiffer (l .keys) i (lhs e)
+  -- nor with another RHS, which admission leaves as it is
+  pub differ-by-rhs : (i : ℕ) → getD (l .keys) (entryWidth * i + 2) 0 ≢ rhs e → sameKey (entryAt l i) e ≡ false
+  unfolding entryAt keyAt
+  differ-by-rhs i f = go (sameKey (entryAt l i) e) refl where
+    go : (t : Bool) → sameKey (entryAt l i) e ≡ t → sameKey (entryAt l i) e ≡ false
+    go true s = absurd (f (sym (rhs-admitted (keyAt l i)) ∙ ap (λ (x : U32TableEntry). rhs x) (same-key-equal (entryAt l i) e s)))
+    go false s = s
+
+  pub find-eight : Words (l .keys) → (i next n : ℕ) → i + 8 ≡ next → next ≤ n
+      → (EightDiffer (l .keys) i (lhs e)) × (EightDiffer (l .keys) i (otherWord e))
       → findFrom l e i (n - i) ≡ findFrom l e next (n - next)
   unfolding EightDiffer
-  find-eight i next n q h d =
-      find-misses 8 i n (omega arith) (λ j b. differ-by-lhs (i + j) (d j b)) ∙ ap (λ (j : ℕ). findFrom l e j (n - j)) q
+  find-eight w i next n q h d =
+      find-misses 8 i n (omega arith) (λ j b. differ-by-lhs w (i + j) (d .0 j b) (d .1 j b)) ∙ ap (λ (j : ℕ). findFrom l e j (n - j)) q
 
 pub eight-differ : (keys : List ℕ) (i lhs : ℕ)
     → getD keys (entryWidth * i + 1) 0 ≢ lhs → getD keys (entryWidth * i + 4) 0 ≢ lhs → getD keys (entryWidth * i + 7) 0 ≢ lhs → getD keys (entryWidth * i + 10) 0 ≢ lhs

@@ -1,3 +1,4 @@
 pub mod JudgedLists
 pub mod Finding
 pub mod Places
+pub mod Alike

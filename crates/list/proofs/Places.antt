@@ -12,7 +12,7 @@ unfolding entriesAt
 entries-map l [] = refl
 entries-map l (i ∷ is) = rw (entries-map l is)
 
-section-places-to : (l : U32List) (n : ℕ) → sectionPlacesTo l n ≡ places n
+pub section-places-to : (l : U32List) (n : ℕ) → sectionPlacesTo l n ≡ places n
 unfolding sectionPlacesTo getsSection placesFrom
 section-places-to l zero = refl
 section-places-to l (suc n) = ap (λ (is : List ℕ). is ++ (n ∷ [])) (section-places-to l n) ∙ places-more n

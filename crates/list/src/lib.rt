@@ -10,8 +10,10 @@ ghost use Rattle.isa.specs.Entries.{entryWords, entryWidth, admission};
 ghost use Rattle.list.specs.Lists.{u32List, keyAt, entryAt, listShape, countFull, judgeEntryBy};
 ghost use Rattle.list.specs.Heights.{judgedPlaces, judgedList};
 ghost use Rattle.list.specs.Keys.{sameKey, findFrom};
-ghost use Rattle.list.specs.Eights.{EightDiffer};
+ghost use Rattle.list.specs.Eights.{EightDiffer, otherWord};
+use field::BFieldElement;
 use isa::Admission;
+use isa::POW;
 use isa::U32TableEntry;
 use words::Judgement;
 use words::MAX_PLACES;
@@ -127,23 +129,61 @@ fn do_eight_differ(keys: &[u64], i: usize, left_operand: u64) -> bool
     true
 }
 
+// The other word that stands for LHS of the key at a place: of pow, LHS + p where it fits a word. Where there is none, LHS.
+fn other_word(key: U32TableEntry) -> u64
+    ensures { λ r. ⌜ r ≡ otherWord key ⌝ }
+{
+    if key.opcode == POW {
+        if key.left_operand < 4294967295 {
+            return key.left_operand + BFieldElement::P;
+        }
+    }
+    key.left_operand
+}
+
+// Yes: the eight places from i on have neither of the two words where LHS stands.
+fn do_eight_differ_from_both(keys: &[u64], i: usize, left_operand: u64, other: u64) -> bool
+    requires { ⌜ entryWidth * (i + 8) ≤ length (now keys) ⌝ }
+    ensures { λ r. ⌜ (r ≡ true → (EightDiffer (now (keys .entry)) i «left_operand») × (EightDiffer (now (keys .entry)) i other)) ⌝ }
+{
+    if !do_eight_differ(keys, i, left_operand) {
+        return false;
+    }
+    if other == left_operand {
+        return true;
+    }
+    do_eight_differ(keys, i, other)
+}
+
+// Whether place i holds the key. RHS is asked for first, since it stands there as admission hands it back.
+fn holds(keys: &[u64], i: usize, key: U32TableEntry) -> bool
+    requires { ⌜ entryWidth * i + 2 < length (now keys) ⌝ }
+    ensures { λ r. ⌜ ((s : Sizes) (ms : List ℕ) → r ≡ sameKey (entryAt (u32List s (now (keys .entry)) ms) i) key) ⌝ }
+{
+    if keys[U32TableEntry::WIDTH * i + 2] != key.right_operand {
+        return false;
+    }
+    same_key(entry_at(keys, i), key)
+}
+
 // The first of the first n places that holds the key, or n where none does: eight at a time, up to eight that get a no, or to the last eight;
 // from there one by one.
 pub fn find(keys: &[u64], n: usize, key: U32TableEntry) -> usize
     requires { ⌜ entryWidth * n ≤ length (now keys) ⌝ }
     ensures { λ r. ⌜ ((s : Sizes) (ms : List ℕ) → r ≡ findFrom (u32List s (now (keys .entry)) ms) key 0 n) ⌝ }
 {
+    let other = other_word(key);
     let eights = n / 8;
     let mut eight: usize = 0;
     while eight < eights {
-        if !do_eight_differ(keys, 8 * eight, key.left_operand) {
+        if !do_eight_differ_from_both(keys, 8 * eight, key.left_operand, other) {
             break;
         }
         eight += 1;
     }
     let mut i: usize = 8 * eight;
     while i < n {
-        if same_key(entry_at(keys, i), key) {
+        if holds(keys, i, key) {
             return i;
         }
         i += 1;

@@ -1,2 +1,3 @@
 pub mod PaddedHeight
 pub mod RecordingCases
+pub mod OneKey

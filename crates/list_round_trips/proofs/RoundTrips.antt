@@ -131,7 +131,7 @@ module _ (l : U32List) (fine : judgeList l ≡ Fine) where
           answer = rw stored-n;
           list = record {
             count = stored-n;
-            entries = λ i p. replaced-entry to (storedBytes l) r i (rw stored-n p) ∙ stored-entry i p;
+            keys = λ i p. replaced-key to (storedBytes l) r i (rw stored-n p) ∙ stored-entry i p;
             multiplicities = λ i p. replaced-multiplicity to (storedBytes l) r i (rw stored-n p) ∙ stored-multiplicity i p;
           };
         })

@@ -7,16 +7,17 @@ use lib.ListN.{length, take, drop}
 use Rattle.words.specs.Answers.{done}
 use Rattle.words.specs.Outcomes.{Outcome, Leaves, unlessDeclined}
 use Rattle.words.specs.declared.Judgement.the-variants.{Fine}
-use Rattle.list.specs.Lists.{U32List, capacity, used, entryAt, multiplicityAt, listShape}
+use Rattle.list.specs.Lists.{U32List, capacity, used, keyAt, entryAt, multiplicityAt, listShape}
 use Rattle.list_bytes.specs.Packed.{storedPlaces, storedLength, storedN}
 use Rattle.list_stored.specs.Stored.{readReason, readAll, readAnswer, writeReason, writeAll, writtenAnswer}
 use Rattle.list_stored.specs.declared.Read.{Read}
 use Rattle.list_stored.specs.declared.Written.{Written}
 
--- as many entries, and in their order the same entries with the same multiplicities
+-- "a written list reads back reduced": a has as many entries as b, and its keys are, word by word and in their order, the entries that admission
+-- hands back of b's, with b's multiplicities
 pub record SameList (a b : U32List) : Type 0 where
   pub count : used a ≡ used b
-  pub entries : (i : ℕ) → i < used b → entryAt a i ≡ entryAt b i
+  pub keys : (i : ℕ) → i < used b → keyAt a i ≡ entryAt b i
   pub multiplicities : (i : ℕ) → i < used b → multiplicityAt a i ≡ multiplicityAt b i
 
 -- a reading has answered the number of entries of the list l, and left the same list

@@ -1,3 +1,4 @@
 pub mod Reasons
 pub mod Copies
 pub mod Fits
+pub mod WrittenAlike

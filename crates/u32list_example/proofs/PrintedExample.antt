@@ -20,7 +20,7 @@ use Rattle.words.specs.LittleEndian.{leAt}
 use Rattle.words.specs.declared.Judgement.the-variants.{Fine}
 use Rattle.words.specs.Places.{placesFrom}
 use Rattle.isa.specs.Opcodes.{isOpcode}
-use Rattle.isa.specs.Entries.{judgeEntry, admitStored, admitted, admit, dominant, heightOf, height}
+use Rattle.isa.specs.Entries.{judgeAsItIs, judgeEntry, admitStored, admitted, admit, dominant, heightOf, height}
 use Rattle.isa.specs.PlainFunctions.{floorLog2}
 use Rattle.list.specs.Lists.{U32List, u32List, keyAt, multiplicityAt, entryAt, listShape, countFull, judgeEntryBy, judgePlaceBy, judgeList}
 use Rattle.list.specs.Heights.{getsSection, sectionPlacesTo, sectionPlaces, entriesAt, sumHeights, listHeight}
@@ -61,7 +61,7 @@ unfolding inputChallenges leAt placesFrom
 challenges-are = refl
 
 reading-is : readAll unusedPlaces (drop challengeBytes input) ≡ record { answer = done (1 ∷ []); left = list }
-unfolding readAll readReason torn storedN storedHeight storedEntry widthOf storedMultiplicity contentReason judgeStored judgeEntryBy countFull admitStored admit judgeEntry isOpcode firstReason occurs repeats tally leAt listShape height heightOf dominant admitted floorLog2 placesFrom sumHeights flatMap
+unfolding readAll readReason torn storedN storedHeight storedEntry widthOf storedMultiplicity contentReason judgeStored judgeEntryBy countFull admitStored admit judgeEntry judgeAsItIs isOpcode firstReason occurs repeats tally leAt listShape height heightOf dominant admitted floorLog2 placesFrom sumHeights flatMap
 reading-is = refl
 
 height-is : listHeight list ≡ 3
@@ -73,7 +73,7 @@ unfolding paddedHeight
 padded-height-is = refl
 
 plan-is : planAll list ≡ done (3 ∷ 256 ∷ [])
-unfolding planAll paddedHeight judgeList listShape judgePlaceBy judgeEntryBy countFull entryAt keyAt multiplicityAt judgeEntry isOpcode firstReason listHeight getsSection sectionPlacesTo entriesAt sumHeights height heightOf dominant admitted floorLog2
+unfolding planAll paddedHeight judgeList listShape judgePlaceBy judgeEntryBy countFull entryAt keyAt multiplicityAt judgeEntry judgeAsItIs isOpcode firstReason listHeight getsSection sectionPlacesTo entriesAt sumHeights height heightOf dominant admitted floorLog2
 plan-is = refl
 
 -- ---- the inverses that occur
@@ -120,7 +120,7 @@ abbrev aux : List ℕ
 aux = zeros 768
 
 fill-fine : fillReason list table ≡ Fine
-unfolding fillReason tableShape judgeList listShape judgePlaceBy judgeEntryBy countFull entryAt keyAt multiplicityAt judgeEntry isOpcode firstReason listHeight getsSection sectionPlacesTo entriesAt sumHeights height heightOf dominant admitted floorLog2
+unfolding fillReason tableShape judgeList listShape judgePlaceBy judgeEntryBy countFull entryAt keyAt multiplicityAt judgeEntry judgeAsItIs isOpcode firstReason listHeight getsSection sectionPlacesTo entriesAt sumHeights height heightOf dominant admitted floorLog2
 fill-fine = refl
 
 abbrev row : (a b c d e f g h i j : ℕ) → Row

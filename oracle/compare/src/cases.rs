@@ -65,6 +65,8 @@ pub struct Counts {
     pub passing: [u64; 2],
     /// Multiplicities past 32 bits: entries of admitted lists, and recordings of keys that have one.
     pub large: [u64; 2],
+    /// Bases of pow of p or more: entries of admitted lists, keys on lists that are recorded onto, and recordings.
+    pub raw: [u64; 3],
     pub heights: u64,
     pub recordings: u64,
     pub orders: u64,
@@ -145,8 +147,21 @@ fn is_reduced(words: &[u64]) -> bool {
     words.iter().all(|&word| word < P)
 }
 
-/// Document 01: the first of the reasons 2 to 4 for a key.
-fn key_reason([opcode, lhs, rhs]: Key) -> Option<u64> {
+/// The key that admission hands back: LHS of pow modulo p.
+pub fn admitted([opcode, lhs, rhs]: Key) -> Key {
+    [opcode, if opcode == 30 { lhs % P } else { lhs }, rhs]
+}
+
+fn admitted_list(list: &[Entry]) -> Vec<Entry> {
+    list.iter().map(|entry| Entry { key: admitted(entry.key), ..*entry }).collect()
+}
+
+fn is_raw(entry: &Entry) -> bool {
+    admitted(entry.key) != entry.key
+}
+
+/// The first of the reasons 2 to 4 for a key as it stands: that of stored bytes.
+fn stored_key_reason([opcode, lhs, rhs]: Key) -> Option<u64> {
     let most_lhs = if opcode == 30 { P - 1 } else { MOST };
     match () {
         _ if !OPCODES.contains(&opcode) => Some(STRANGER),
@@ -156,14 +171,27 @@ fn key_reason([opcode, lhs, rhs]: Key) -> Option<u64> {
     }
 }
 
-/// Document 01: the first of the reasons 2 to 5 for an entry.
+/// The same wherever else a key is given: the admitted one is judged.
+fn key_reason(key: Key) -> Option<u64> {
+    stored_key_reason(admitted(key))
+}
+
+/// The first of the reasons 2 to 5 for an entry, and for one in stored bytes.
 fn entry_reason(entry: &Entry) -> Option<u64> {
-    key_reason(entry.key).or((entry.multiplicity > MOST_COUNT).then_some(COUNT_FULL))
+    key_reason(entry.key).or(count_reason(entry))
+}
+
+fn stored_entry_reason(entry: &Entry) -> Option<u64> {
+    stored_key_reason(entry.key).or(count_reason(entry))
+}
+
+fn count_reason(entry: &Entry) -> Option<u64> {
+    (entry.multiplicity > MOST_COUNT).then_some(COUNT_FULL)
 }
 
 fn has_repeats(list: &[Entry]) -> bool {
     let mut seen = HashSet::new();
-    !list.iter().all(|entry| seen.insert(entry.key))
+    !list.iter().all(|entry| seen.insert(admitted(entry.key)))
 }
 
 /// Document 01's stored form, with multiplicities of 8 bytes, or of 4, the lower ones, as they were.
@@ -328,6 +356,7 @@ impl Comparison {
         self.counts.lists += 1;
         self.counts.entries += list.len() as u64;
         self.counts.large[0] += list.iter().filter(|entry| entry.multiplicity > MOST).count() as u64;
+        self.counts.raw[0] += list.iter().filter(|entry| is_raw(entry)).count() as u64;
 
         let height = theirs("height", || list_height(list))?;
         self.heights(list, &ours, height)?;
@@ -398,9 +427,10 @@ impl Comparison {
         Ok(rows)
     }
 
-    /// Written, and read back. A stored list is not the original's: the bytes are compared with document 01's form.
-    fn round_trip(&mut self, list: &[Entry], ours: &List, height: usize) -> Same {
+    /// Written, and read back reduced. A stored list is not the original's: the bytes are compared with document 01's form.
+    fn round_trip(&mut self, raw: &[Entry], ours: &List, height: usize) -> Same {
         self.counts.round_trips += 1;
+        let list = &admitted_list(raw);
         let bytes = stored(list, height, 8);
         let old: Vec<u8> = old_words(bytes.len() + 5).iter().map(|&word| (word >> 8) as u8).collect();
         let mut out = old.clone();
@@ -424,13 +454,17 @@ impl Comparison {
 
         let answer = port::read(&bytes, &mut fresh);
         agree("read", answer, list.len(), answer == Ok([list.len() as u64]))?;
-        self.same("read: keys", &fresh.keys, &ours.keys)?;
+        self.same("read: keys", &fresh.keys, &arrays(list, ours.capacity).keys)?;
         self.same("read: multiplicities", &fresh.multiplicities, &ours.multiplicities)?;
 
         self.unreadable("read, one byte fewer", &bytes[..bytes.len() - 1], ours.capacity, TORN)?;
         self.unreadable("read, another height", &stored(list, height + 1, 8), ours.capacity, TALLY)?;
         if !list.is_empty() {
             self.unreadable("read, one place too few", &bytes, list.len() - 1, LIST_FULL)?;
+            if raw != list.as_slice() {
+                self.unreadable("read of a base of p or more", &stored(raw, height, 8), ours.capacity, WIDE)?;
+                self.unreadable("read of a base of p or more, the old form", &stored(raw, height, 4), ours.capacity, WIDE)?;
+            }
             self.old_form(list, ours.capacity, height)?;
         }
         Ok(())
@@ -483,8 +517,9 @@ impl Comparison {
         agree("write, refused: bytes", &out, 7, out.iter().all(|&byte| byte == 7))?;
         // Stored, an opcode has one byte; in the old form a multiplicity has four, and is never too large.
         if list.iter().all(|entry| entry.key[0] < 256) {
+            let reason = list.iter().find_map(stored_entry_reason).unwrap();
             self.unreadable("read", &stored(list, 0, 8), ours.capacity, reason)?;
-            if let Some(reason) = list.iter().find_map(|entry| key_reason(entry.key)) {
+            if let Some(reason) = list.iter().find_map(|entry| stored_key_reason(entry.key)) {
                 self.unreadable("read of the old form", &stored(list, 0, 4), ours.capacity, reason)?;
             }
         }
@@ -682,14 +717,19 @@ impl Comparison {
 
     fn record(&mut self, list: &[Entry], capacity: usize, keys: &[Key]) -> Same {
         let mut ours = arrays(list, capacity);
+        // The entries as the original has them, and the keys as they stand in the port's arrays: raw ones stay as they are.
         let mut entries = list.to_vec();
-        for &key in keys {
+        let mut held: Vec<Key> = list.iter().map(|entry| entry.key).collect();
+        self.counts.raw[1] += list.iter().filter(|entry| is_raw(entry)).count() as u64;
+        for &raw in keys {
+            let key = admitted(raw);
             let before = ours.clone();
-            let answer = port::record(&mut ours, key);
+            let answer = port::record(&mut ours, raw);
             self.counts.recordings += 1;
+            self.counts.raw[2] += (raw != key) as u64;
             let reason = key_reason(key).or_else(|| {
-                // The original, on a copy of the list so far.
-                let after = record(&entries, &[key]);
+                // The original, on a copy of the list so far, with the raw words.
+                let after = record(&entries, &[raw]);
                 let position = after.iter().position(|entry| entry.key == key)?;
                 let count = entries.get(position).map_or(0, |entry| entry.multiplicity);
                 self.counts.large[1] += (count >= MOST) as u64;
@@ -707,16 +747,18 @@ impl Comparison {
                 match reason {
                     COUNT_FULL => self.note(listed::MULTIPLICITY),
                     LIST_FULL => self.note(listed::SIZE),
-                    _ => self.refused_entry(&Entry { key, multiplicity: 1 }, reason)?,
+                    _ => self.refused_entry(&Entry { key: raw, multiplicity: 1 }, reason)?,
                 }
                 continue;
             }
-            let after = theirs("record", || record(&entries, &[key]))?;
+            let after = theirs("record", || record(&entries, &[raw]))?;
             let position = after.iter().position(|entry| entry.key == key).ok_or("record: the original lost the key")?;
             let expected = [position as u64, after.len() as u64];
             agree("record", answer, expected, answer == Ok(expected))?;
             ours.used = after.len();
-            let expected = arrays(&after, capacity);
+            held.extend(after[held.len()..].iter().map(|entry| entry.key));
+            let shown: Vec<Entry> = after.iter().zip(&held).map(|(entry, &key)| Entry { key, ..*entry }).collect();
+            let expected = arrays(&shown, capacity);
             self.same("record: keys", &ours.keys, &expected.keys)?;
             self.same("record: multiplicities", &ours.multiplicities, &expected.multiplicities)?;
             entries = after;

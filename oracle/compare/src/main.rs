@@ -81,6 +81,10 @@ fn compare(seed: u64, size: Size) -> ExitCode {
             println!("NOT COMPARED (seed {seed}): multiplicities past 32 bits, {:?}", counts.large);
             ExitCode::FAILURE
         }
+        None if counts.raw.contains(&0) => {
+            println!("NOT COMPARED (seed {seed}): bases of pow of p or more, {:?}", counts.raw);
+            ExitCode::FAILURE
+        }
         None => {
             println!("seed {seed} seconds {seconds} differences 0");
             ExitCode::SUCCESS
@@ -104,6 +108,7 @@ fn print_counts(counts: &Counts) {
         counts.passing[0], counts.passing[1]
     );
     println!("multiplicities past 32 bits, entries {} recordings {}", counts.large[0], counts.large[1]);
+    println!("bases of pow of p or more, entries {} held {} recordings {}", counts.raw[0], counts.raw[1], counts.raw[2]);
     println!(
         "heights {} recordings {} orders {} written and read {} element operations {}",
         counts.heights, counts.recordings, counts.orders, counts.round_trips, counts.elements
@@ -212,8 +217,9 @@ impl Run {
         operands.dedup();
         let mut list = vec![];
         let mut i = 0;
+        let bases_of_pow = [&wide[..], &[P, P + 1, P + 40, u64::MAX]].concat();
         for opcode in OPCODES {
-            let bases: &[u64] = if opcode == 30 { &wide } else { &[] };
+            let bases: &[u64] = if opcode == 30 { &bases_of_pow } else { &[] };
             for &lhs in operands.iter().chain(bases).filter(|&&lhs| opcode != 12 || lhs != 0) {
                 for &rhs in &operands {
                     i += 1;
@@ -255,7 +261,8 @@ impl Run {
             i if i % 10 == 5 => 40,
             _ => 5,
         };
-        let list = random.list(most);
+        let mut list = random.list(most);
+        list.iter_mut().for_each(|entry| entry.key = now_and_then_raw(random, entry.key));
         let challenges = challenges(random);
         let (spare, extra) = (random.below(4) as usize, random.below(5) as usize);
         let small: Vec<Entry> = list.iter().take(3).copied().collect();
@@ -286,6 +293,15 @@ fn any_word(random: &mut Random) -> u64 {
     }
 }
 
+/// The key, or of pow a raw word in the place of its base: the same element plus p where that is a word, else any word of p or more.
+fn now_and_then_raw(random: &mut Random, [opcode, lhs, rhs]: Key) -> Key {
+    if opcode != 30 || random.below(3) > 0 {
+        return [opcode, lhs, rhs];
+    }
+    let any = P + random.below(u64::MAX - P + 1);
+    [opcode, lhs.checked_add(P).unwrap_or(any), rhs]
+}
+
 /// Random ones; now and then small ones, or an opcode as U32Indeterminate with U32CiWeight 1: then a denominator may be zero.
 fn challenges(random: &mut Random) -> Challenges {
     match random.below(8) {
@@ -300,7 +316,7 @@ fn challenges(random: &mut Random) -> Challenges {
     }
 }
 
-/// A list with an entry or two that document 01 does not admit, or whose multiplicity is at the limit.
+/// A list with an entry or two that document 01 does not admit, whose multiplicity is at the limit, or whose base of pow is p or more.
 fn damaged_list(random: &mut Random) -> Case {
     let mut list = random.list(4);
     for _ in 0..=random.below(2) {
@@ -418,7 +434,8 @@ fn recordings(random: &mut Random) -> Case {
     let mut list: Vec<Entry> = vec![];
     for _ in 0..random.below(4) {
         let key = if random.below(2) == 0 { random.one_of(&keys) } else { random.key() };
-        if list.iter().all(|entry| entry.key != key) {
+        let key = now_and_then_raw(random, key);
+        if list.iter().all(|entry| admitted(entry.key) != admitted(key)) {
             let any = random.operand();
             let multiplicity = random.one_of(&[0, 1, (1 << 32) - 2, (1 << 32) - 1, 1 << 32, P - 2, P - 1, P, u64::MAX, any]);
             list.push(Entry { key, multiplicity });
@@ -429,7 +446,11 @@ fn recordings(random: &mut Random) -> Case {
         keys.push(key);
     }
     let capacity = list.len() + random.below(6) as usize;
-    let keys = (0..random.below(16)).map(|_| random.one_of(&keys)).collect();
+    let raw = |random: &mut Random| {
+        let key = random.one_of(&keys);
+        now_and_then_raw(random, key)
+    };
+    let keys = (0..random.below(16)).map(|_| raw(random)).collect();
     Case::Record { list, capacity, keys }
 }
 

@@ -54,7 +54,18 @@ fn other_opcodes() {
     assert!((0..100).all(|opcode| OPCODES.contains(&opcode) != panics(|| filled(&[entry(opcode, 0, 0, 1)]))));
 }
 
-/// Document 01: refused with 3 or 8, and compared as they are. The original's elements are reduced.
+/// No difference, since request 7: a base of pow is taken modulo p, and two words of one base are one key.
+#[test]
+fn bases_of_p_or_more() {
+    for base in [0, 5, (1 << 32) - 2] {
+        assert_eq!(filled(&[entry(30, base, 3, 7)]), filled(&[entry(30, base + P, 3, 7)]));
+        assert_eq!(height([30, base, 3]), height([30, base + P, 3]));
+        assert_eq!(vec![entry(30, base, 3, 2)], record(&[], &[[30, base + P, 3], [30, base, 3]]));
+        assert_eq!(vec![entry(30, base, 3, 8)], record(&[entry(30, base + P, 3, 7)], &[[30, base, 3]]));
+    }
+}
+
+/// Document 01: refused with 3 or 8, but for bases of pow, and compared as they are. The original's elements are reduced.
 #[test]
 fn words_of_p_or_more() {
     assert_eq!(filled(&[entry(14, 3, 1, 2)]), filled(&[entry(14, P + 3, P + 1, P + 2)]));

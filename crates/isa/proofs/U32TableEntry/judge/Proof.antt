@@ -14,7 +14,7 @@ use Rattle.words.specs.Refusals.{declineIf, orElse}
 use Rattle.words.proofs.Judgements.{decline-true, decline-false, or-next, or-first, or-fine}
 use Rattle.isa.specs.Opcodes.{isOpcode}
 use Rattle.isa.specs.declared.U32TableEntry.{U32TableEntry}
-use Rattle.isa.specs.Entries.{lhs, rhs, rhsLimit, judgeEntry}
+use Rattle.isa.specs.Entries.{lhs, rhs, rhsLimit, judgeAsItIs}
 use borrow.Author.Needs.{needs}
 use Rattle.isa.proofs.U32TableEntry.judge.Statement.{statement}
 use Rattle.isa.proofs.U32TableEntry.judge.Tie as tie
@@ -23,25 +23,25 @@ abbrev wide : ℕ → U32TableEntry → Judgement
 wide limit e = declineIf (not (ltb (lhs e) limit && ltb (rhs e) rhsLimit)) Wide
 
 -- what the definition is at each opcode
-ordinary : (e : U32TableEntry) → (e .opcode ≡ 4) ⊎ ((e .opcode ≡ 6) ⊎ ((e .opcode ≡ 14) ⊎ (e .opcode ≡ 28))) → judgeEntry e ≡ wide 4294967296 e
-unfolding judgeEntry isOpcode
+ordinary : (e : U32TableEntry) → (e .opcode ≡ 4) ⊎ ((e .opcode ≡ 6) ⊎ ((e .opcode ≡ 14) ⊎ (e .opcode ≡ 28))) → judgeAsItIs e ≡ wide 4294967296 e
+unfolding judgeAsItIs isOpcode
 ordinary e (inl k) = simp (k, or-fine)
 ordinary e (inr (inl k)) = simp (k, or-fine)
 ordinary e (inr (inr (inl k))) = simp (k, or-fine)
 ordinary e (inr (inr (inr k))) = simp (k, or-fine)
 
-pow : (e : U32TableEntry) → e .opcode ≡ 30 → judgeEntry e ≡ wide p e
-unfolding judgeEntry isOpcode
+pow : (e : U32TableEntry) → e .opcode ≡ 30 → judgeAsItIs e ≡ wide p e
+unfolding judgeAsItIs isOpcode
 pow e k = simp (k, or-fine)
 
-log : (e : U32TableEntry) → e .opcode ≡ 12 → judgeEntry e ≡ orElse (wide 4294967296 e) (declineIf (eqb (lhs e) 0) BareLog)
-unfolding judgeEntry isOpcode
+log : (e : U32TableEntry) → e .opcode ≡ 12 → judgeAsItIs e ≡ orElse (wide 4294967296 e) (declineIf (eqb (lhs e) 0) BareLog)
+unfolding judgeAsItIs isOpcode
 log e k = simp k
 
 stranger : (e : U32TableEntry)
     → ((e .opcode ≡ 4) ⊎ ((e .opcode ≡ 6) ⊎ ((e .opcode ≡ 14) ⊎ (e .opcode ≡ 28))) → ⊥) → (e .opcode ≡ 30 → ⊥) → (e .opcode ≡ 12 → ⊥)
-    → judgeEntry e ≡ Declined Stranger
-unfolding judgeEntry isOpcode
+    → judgeAsItIs e ≡ Declined Stranger
+unfolding judgeAsItIs isOpcode
 stranger e f g h =
     let o = e .opcode in
     simp (
