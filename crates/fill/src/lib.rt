@@ -133,10 +133,10 @@ pub fn pad(table: &mut [u64], filled: usize) -> Completed
         return Completed::Refused(Refusal::Short);
     }
     let last = last_filled(table, filled);
+    let padding = padding_row(last);
     if !table::all_reduced(&last.words()) {
         return Completed::Refused(Refusal::Unreduced);
     }
-    let padding = padding_row(last);
     let mut row = filled;
     while row < rows {
         padding.put(table, row);

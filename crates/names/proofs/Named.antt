@@ -1,17 +1,14 @@
--- Past the end of a list of names there is none, and no fifth group. Assumes nothing.
-use Prim.Native.Nat.{ℕ, zero, suc, _≤_}
-use mathlib.Core.Path.{_≡_, refl}
-use mathlib.Core.Bool.{Bool, true, false, _&&_}
-use mathlib.Core.List.{List, [], _∷_}
+-- Past the end of a list of names there is none, and no fifth group; where a group's names stand among all. Assumes nothing.
+use Prim.Native.Nat.{ℕ, zero, suc, _+_, _≤_, _<_}
+use mathlib.Core.Path.{_≡_, refl, _∙_, sym}
+use mathlib.Core.Bool.{Bool, true, false, cond, _&&_}
+use mathlib.Core.List.{List, [], _∷_, _++_}
 use native.Mathlib.Omega.{arith}
-use borrow.Author.Tests.{leb-true}
-use lib.Dec.{leb}
-use lib.ListN.{length}
-use Rattle.names.specs.Names.{initialNames, consistencyNames, transitionNames, terminalNames, namesOf, nameAt, nameOf, maxName}
-
--- a number of which one more is ruled out
-pub ruled-out : {n : ℕ} (k : ℕ) → k ≤ n → (n ≡ k → ⊥) → suc k ≤ n
-ruled-out k h e = omega arith
+use native.Mathlib.Nat.{zero-add, suc-add}
+use borrow.Author.Tests.{leb-true, ltb-true, ltb-false}
+use lib.Dec.{leb, ltb}
+use lib.ListN.{length, length-append}
+use Rattle.names.specs.Names.{initialNames, consistencyNames, transitionNames, terminalNames, allNames, namesOf, nameAt, nameOf, maxName}
 
 pub past-end : (names : List (List ℕ)) (index : ℕ) → length names ≤ index → nameAt names index ≡ []
 past-end [] index h = refl
@@ -25,12 +22,43 @@ no-group (suc (suc zero)) index h = absurd (omega arith)
 no-group (suc (suc (suc zero))) index h = absurd (omega arith)
 no-group (suc (suc (suc (suc group)))) index h = refl
 
+-- ---- the place of a name among all
+at-left : (xs ys : List (List ℕ)) (index : ℕ) → index < length xs → nameAt (xs ++ ys) index ≡ nameAt xs index
+at-left [] ys index h = absurd (omega arith)
+at-left (x ∷ xs) ys zero h = refl
+at-left (x ∷ xs) ys (suc index) h = at-left xs ys index (omega arith)
+
+at-right : (xs ys : List (List ℕ)) (index : ℕ) → nameAt (xs ++ ys) (length xs + index) ≡ nameAt ys index
+at-right [] ys index = simp zero-add refl
+at-right (x ∷ xs) ys index = simp suc-add (at-right xs ys index)
+
+-- a group's names, with 40 names in all: the place of one of them is as far past the names before; any other index has place 40
+pub placed : (before names after : List (List ℕ)) (index r : ℕ) → length (before ++ (names ++ after)) ≡ 40
+    → r ≡ cond (ltb index (length names)) (length before + index) 40
+    → (r ≤ 40) × (nameAt (before ++ (names ++ after)) r ≡ nameAt names index)
+placed before names after index r size e = go (ltb index (length names)) refl e
+  where
+    go : (t : Bool) → ltb index (length names) ≡ t → r ≡ cond t (length before + index) 40
+        → (r ≤ 40) × (nameAt (before ++ (names ++ after)) r ≡ nameAt names index)
+    go true h m =
+        let l = ltb-true index (length names) h in
+        let a = length-append before (names ++ after) in
+        let b = length-append names after in
+        (omega arith, rw m (at-right before (names ++ after) index ∙ at-left names after index l))
+    go false h m =
+        let l = ltb-false index (length names) h in
+        (omega arith, rw m (past-end (before ++ (names ++ after)) 40 (omega arith) ∙ sym (past-end names index l)))
+
+pub none-at-40 : nameAt allNames 40 ≡ []
+unfolding allNames initialNames consistencyNames transitionNames terminalNames
+none-at-40 = refl
+
 -- ---- how long a name can be
-and-left : (a b : Bool) → (a && b) ≡ true → a ≡ true
+pub and-left : (a b : Bool) → (a && b) ≡ true → a ≡ true
 and-left true b e = refl
 and-left false b e = e
 
-and-right : (a b : Bool) → (a && b) ≡ true → b ≡ true
+pub and-right : (a b : Bool) → (a && b) ≡ true → b ≡ true
 and-right true b e = e
 and-right false b e = absurd (let z : _≡_ {A = ℕ} 0 1 = cc in omega arith)
 

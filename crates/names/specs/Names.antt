@@ -1,7 +1,7 @@
 -- The names of the forty constraints, those of the source, by group and index: in the order of the lists of air/specs/Constraints.antt
 -- (tests/u32check compares).
 use Prim.Native.Nat.{ℕ, zero, suc}
-use mathlib.Core.List.{List, [], _∷_}
+use mathlib.Core.List.{List, [], _∷_, _++_}
 use Rattle.text.specs.Lines.{ascii}
 
 unfoldable pub initialNames : List (List ℕ)
@@ -77,6 +77,10 @@ nameAt (name ∷ names) (suc index) = nameAt names index
 -- the name of a constraint
 unfoldable pub nameOf : (group index : ℕ) → List ℕ
 nameOf group index = nameAt (namesOf group) index
+
+-- all of them, one group after the other
+unfoldable pub allNames : List (List ℕ)
+allNames = initialNames ++ (consistencyNames ++ (transitionNames ++ terminalNames))
 
 -- no name is longer
 abbrev pub maxName : ℕ

@@ -1,4 +1,5 @@
 // Numbers in a text, read byte by byte: decimal digits, with one or more spaces or newlines between the numbers and anywhere around them.
+ghost use lib.ListN.{replicate};
 ghost use mathlib.Core.Path.{_≡_};
 ghost use Prim.Native.Nat.{_≤_};
 ghost use Rattle.numbers.specs.Numbers.{startPlace, lineOfNext, gapStep, digitStep, stepOf};
@@ -102,4 +103,11 @@ pub fn next(place: Place, byte: u8) -> Step
         return Step::Fault(line);
     }
     digit_step(line, place.value, (byte - b'0') as u64)
+}
+
+// Room for the numbers of a text, as many as a program takes: all 0.
+pub fn room() -> [u64; 163856]
+    ensures { λ r. ⌜ r ≡ replicate 163856 0 ⌝ }
+{
+    [0; 163856]
 }

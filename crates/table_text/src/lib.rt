@@ -2,7 +2,7 @@
 // rows, and ten words a row.
 ghost use Prim.Native.Nat.{_*_, _≤_, _<_};
 ghost use mathlib.Core.Path.{_≡_};
-ghost use lib.ListN.{length};
+ghost use lib.ListN.{length, replicate};
 ghost use Rattle.table_text.specs.TableText.{maxWords, Fed, IsFed, Within, startStage, takeNumber, feedByte, feedAll, endNumber, takenOf};
 ghost use Rattle.table_text.specs.Answers.{maxAnswer, verdictLines, verdictText, takenText, answerText};
 ghost use Rattle.table_text.specs.TableText.{mostRows};
@@ -224,8 +224,8 @@ fn put_table(words: &[u64], rows: usize, aux: &mut [u64], out: &mut [u8]) -> usi
     verdict_text(&words[..ROWS_AT], &words[HEAD..to], &mut aux[..sums], out)
 }
 
-// The answer for a text that ended here, at the front of `out`; answers its length.
-pub fn put_answer(stage: Stage, words: &mut [u64], aux: &mut [u64], out: &mut [u8]) -> usize
+// The answer for a text that ended here, at the front of `out`, with words for the sums; answers its length.
+fn put_ended(stage: Stage, words: &mut [u64], aux: &mut [u64], out: &mut [u8]) -> usize
     requires { ⌜ (maxWords ≤ length (now words)) × (3 * mostRows ≤ length (now aux)) × (maxAnswer ≤ length (now out)) × Within stage ⌝ }
     ensures { λ r. ⌜ Put (now (out .entry)) 0 (answerText stage (now (words .entry)) (now (aux .entry))) (now (out .exit)) r ⌝ }
 {
@@ -235,4 +235,13 @@ pub fn put_answer(stage: Stage, words: &mut [u64], aux: &mut [u64], out: &mut [u
         Taken::TooMany(rows) => text::put_too_many(out, 0, rows, MAX_ROWS),
         Taken::Rows(rows) => put_table(words, rows, aux, out),
     }
+}
+
+// The answer for a text that ended here, at the front of `out`; answers its length.
+pub fn put_answer(stage: Stage, words: &mut [u64], out: &mut [u8]) -> usize
+    requires { ⌜ (maxWords ≤ length (now words)) × (maxAnswer ≤ length (now out)) × Within stage ⌝ }
+    ensures { λ r. ⌜ Put (now (out .entry)) 0 (answerText stage (now (words .entry)) (replicate (3 * mostRows) 0)) (now (out .exit)) r ⌝ }
+{
+    let mut aux = [0u64; 49152];
+    put_ended(stage, words, &mut aux, out)
 }

@@ -1,8 +1,8 @@
 // u32check: reads the text of a table that anyone may have made from standard input, sums and checks the table, and writes the check's answer.
 // `table_text` does all of it but the reading and the writing.
-ghost use Prim.Native.Nat.{_*_, _≤_};
+ghost use Prim.Native.Nat.{_≤_};
 ghost use lib.ListN.{length};
-ghost use Rattle.table_text.specs.TableText.{maxWords, mostRows, Within};
+ghost use Rattle.table_text.specs.TableText.{maxWords, Within};
 ghost use Rattle.u32check.specs.Reads.{FedWithin, ReadWithin};
 use streams::Filled;
 use table_text::Stage;
@@ -75,22 +75,21 @@ fn read_text(words: &mut [u64]) -> Whole
 }
 
 // Reads, sums and checks, and writes the answer.
-fn run(words: &mut [u64], aux: &mut [u64])
-    requires { ⌜ (maxWords ≤ length (now words)) × (3 * mostRows ≤ length (now aux)) ⌝ }
+fn run(words: &mut [u64])
+    requires { ⌜ maxWords ≤ length (now words) ⌝ }
 {
     let mut out = [0u8; 256];
     match read_text(words) {
         Whole::Failed => {}
         Whole::Text(stage) => {
-            let length = table_text::put_answer(stage, words, aux, &mut out);
+            let length = table_text::put_answer(stage, words, &mut out);
             streams::write_all(&out[..length]);
         }
     }
 }
 
-// 16 numbers and ten for each of 16,384 rows, and three words a row for the sums.
+// 16 numbers and ten for each of 16,384 rows.
 fn main() {
-    let mut words = [0u64; 163856];
-    let mut aux = [0u64; 49152];
-    run(&mut words, &mut aux);
+    let mut words = numbers::room();
+    run(&mut words);
 }

@@ -5,6 +5,7 @@ ghost use mathlib.Core.Path.{_≡_};
 ghost use lib.ListN.{length};
 ghost use Rattle.vectors.specs.Same.{sameFirst};
 ghost use Rattle.vectors.specs.Counts.{counted, answered, tallied};
+use libc::STDIN_FILENO;
 use libc::STDOUT_FILENO;
 
 // A number, and the place after it. Where there is none left, the value is 0 and the place the text's length.
@@ -139,6 +140,60 @@ pub fn bytes(text: &[u8], from: usize, out: &mut [u8], count: usize) -> usize {
         i += 1;
     }
     at
+}
+
+// ---- reading standard input in parts
+// How many bytes are left of the first n of a buffer without the first `done`.
+fn left(n: usize, done: usize, length: usize) -> usize
+    ensures { λ r. ⌜ r ≤ length ⌝ }
+{
+    if n <= length {
+        if done <= n {
+            return n - done;
+        }
+    }
+    0
+}
+
+// The byte at one place goes to another.
+fn move_byte(text: &mut [u8], from: u64, to: usize) {
+    if from < text.len() as u64 {
+        if to < text.len() {
+            text[to] = text[from as usize];
+        }
+    }
+}
+
+// The first `count` bytes from `from` on go to the front.
+fn to_front(text: &mut [u8], from: usize, count: usize) {
+    let mut i: usize = 0;
+    while i < count {
+        move_byte(text, std::num::wrapping_add_u64(from as u64, i as u64), i);
+        i += 1;
+    }
+}
+
+// Of the `filled` bytes that a buffer holds the first `done` are dropped, the others go to the front, and standard input is read behind them
+// until the buffer is full or the input ends. Answers how many bytes the buffer holds then.
+pub fn refill(text: &mut [u8], filled: usize, done: usize) -> usize {
+    let kept = left(filled, done, text.len());
+    to_front(text, done, kept);
+    let more = io::read_full(STDIN_FILENO, &mut text[kept..]);
+    std::num::wrapping_add_u64(kept as u64, more as u64) as usize
+}
+
+// The place after the last line that ends; 0 where none does.
+pub fn whole_lines(text: &[u8]) -> usize {
+    let mut end: usize = 0;
+    let mut i: usize = 0;
+    while i < text.len() {
+        let b = text[i];
+        i += 1;
+        if b == b'\n' {
+            end = i;
+        }
+    }
+    end
 }
 
 // A digit becomes another digit; every other byte stays.

@@ -2,7 +2,8 @@
 // (tools/vectors.py); what is printed is how many tables were found zero, nonzero or refused, how many answers differ, and how many of the forty
 // constraints were the first nonzero one of some table. Then all lines are run again with the last wanted word of each changed: each must differ.
 use check_table::Verdict;
-use libc::STDIN_FILENO;
+use vectors::byte_part;
+use vectors::byte_part_mut;
 use vectors::part;
 use vectors::print_count;
 use vectors::print_tally;
@@ -114,13 +115,43 @@ fn run_changed(text: &mut [u8], counts: &mut [u64; vectors::COUNTS]) {
     run(text, counts);
 }
 
+// Runs the whole lines that the buffer holds, as they are and changed, and reads on; answers how many bytes the buffer holds then.
+fn run_part(
+    text: &mut [u8],
+    filled: usize,
+    counts: &mut [u64; vectors::COUNTS],
+    changed: &mut [u64; vectors::COUNTS],
+) -> usize {
+    let lines = vectors::whole_lines(byte_part(text, filled));
+    run(byte_part(text, lines), counts);
+    run_changed(byte_part_mut(text, lines), changed);
+    vectors::refill(text, filled, lines)
+}
+
+// Runs the lines of standard input, a part after the other. Answers how many bytes are left at the end: none, but where a line does not end, a
+// line is longer than the buffer, or there are more than a thousand parts.
+fn run_input(
+    text: &mut [u8],
+    counts: &mut [u64; vectors::COUNTS],
+    changed: &mut [u64; vectors::COUNTS],
+) -> usize {
+    let mut filled = vectors::refill(text, 0, 0);
+    let mut parts: usize = 0;
+    while parts < 1000 {
+        if filled == 0 {
+            return filled;
+        }
+        filled = run_part(text, filled, counts, changed);
+        parts += 1;
+    }
+    filled
+}
+
 fn main() {
-    let mut text = [0u8; 524288];
-    let n = io::read_full(STDIN_FILENO, &mut text);
+    let mut text = io::large_buffer();
     let mut counts = [0u64; vectors::COUNTS];
-    run(&text[..n], &mut counts);
     let mut changed = [0u64; vectors::COUNTS];
-    run_changed(vectors::byte_part_mut(&mut text, n), &mut changed);
+    let left = run_input(&mut text, &mut counts, &mut changed);
     print_tally(b"zero", &counts, 1);
     print_tally(b"nonzero", &counts, 2);
     print_tally(b"refused", &counts, 3);
@@ -129,4 +160,6 @@ fn main() {
     print_tally(b"with the last word changed, zero", &changed, 1);
     print_tally(b"with the last word changed, nonzero", &changed, 2);
     print_tally(b"with the last word changed, refused", &changed, 3);
+    print_count(b"bytes not run", left as u64);
+    print_text(b"\n");
 }

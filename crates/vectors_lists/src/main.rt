@@ -3,7 +3,6 @@
 // the last wanted number of each changed: each must differ.
 use isa::Order;
 use isa::U32TableEntry;
-use libc::STDIN_FILENO;
 use list_record::Planned;
 use list_record::Recorded;
 use list_record::Sizes;
@@ -13,7 +12,9 @@ use vectors::byte_part;
 use vectors::byte_part_mut;
 use vectors::part;
 use vectors::part_mut;
+use vectors::print_count;
 use vectors::print_tally;
+use vectors::print_text;
 use vectors::same_words;
 use vectors::tally;
 
@@ -413,13 +414,43 @@ fn run_changed(text: &mut [u8], counts: &mut [u64; vectors::COUNTS]) {
     run(text, counts);
 }
 
+// Runs the whole lines that the buffer holds, as they are and changed, and reads on; answers how many bytes the buffer holds then.
+fn run_part(
+    text: &mut [u8],
+    filled: usize,
+    counts: &mut [u64; vectors::COUNTS],
+    changed: &mut [u64; vectors::COUNTS],
+) -> usize {
+    let lines = vectors::whole_lines(byte_part(text, filled));
+    run(byte_part(text, lines), counts);
+    run_changed(byte_part_mut(text, lines), changed);
+    vectors::refill(text, filled, lines)
+}
+
+// Runs the lines of standard input, a part after the other. Answers how many bytes are left at the end: none, but where a line does not end, a
+// line is longer than the buffer, or there are more than a thousand parts.
+fn run_input(
+    text: &mut [u8],
+    counts: &mut [u64; vectors::COUNTS],
+    changed: &mut [u64; vectors::COUNTS],
+) -> usize {
+    let mut filled = vectors::refill(text, 0, 0);
+    let mut parts: usize = 0;
+    while parts < 1000 {
+        if filled == 0 {
+            return filled;
+        }
+        filled = run_part(text, filled, counts, changed);
+        parts += 1;
+    }
+    filled
+}
+
 fn main() {
-    let mut text = [0u8; 524288];
-    let n = io::read_full(STDIN_FILENO, &mut text);
+    let mut text = io::large_buffer();
     let mut counts = [0u64; vectors::COUNTS];
-    run(&text[..n], &mut counts);
     let mut changed = [0u64; vectors::COUNTS];
-    run_changed(vectors::byte_part_mut(&mut text, n), &mut changed);
+    let left = run_input(&mut text, &mut counts, &mut changed);
     places(&mut counts);
     too_many_places(&mut counts);
     print_tally(b"record", &counts, 1);
@@ -433,4 +464,6 @@ fn main() {
     print_tally(b"with the last number changed, plan", &changed, 3);
     print_tally(b"with the last number changed, read", &changed, 4);
     print_tally(b"with the last number changed, write", &changed, 5);
+    print_count(b"bytes not run", left as u64);
+    print_text(b"\n");
 }

@@ -2,7 +2,6 @@
 // Every case is run twice, with an output of the least size that is admitted and with one that is a byte shorter. What is printed is how many
 // cases got what answer, and in how many the answer, the text or a byte past it differs. Each text is also compared with the file's bytes a place
 // later: each must differ.
-use libc::STDIN_FILENO;
 use transcript::MAX_TEXT;
 use transcript::Transcribed;
 use vectors::byte_part;
@@ -103,51 +102,70 @@ fn output_is_short(input: &[u8], out: &mut [u8], counts: &mut [u64; vectors::COU
     }
 }
 
-// Runs the case that starts at a place of the file; answers the place after it.
-fn run_case(file: &[u8], from: usize, counts: &mut [u64; vectors::COUNTS]) -> usize {
-    let mut input = [0u8; 65536];
+// The part of the file from a place on; none of it where the place is past the end.
+fn rest(file: &[u8], from: usize) -> &[u8] {
+    let at = vectors::within(from as u64, file.len());
+    &file[at..]
+}
+
+// The place after the case at the file's start. Where the case is not whole, that is past the file's end.
+fn case_end(file: &[u8]) -> usize {
+    let size = vectors::number(file, 0);
+    let length = vectors::number(file, size.next);
+    later(later(later(length.next, 1), size.value), length.value)
+}
+
+// Runs the case at the file's start.
+fn run_case(file: &[u8], counts: &mut [u64; vectors::COUNTS]) {
     let mut out = [0u8; 107804];
-    let size = vectors::number(file, from);
-    let given = vectors::number(file, size.next);
-    let g = vectors::within(given.value, 65536);
-    let n = vectors::within(size.value, 65536);
-    let after = vectors::bytes(file, given.next, &mut input, g);
-    let length = vectors::number(file, after);
-    let text = later(length.next, 1);
+    let size = vectors::number(file, 0);
+    let length = vectors::number(file, size.next);
+    let from = later(length.next, 1);
+    let n = vectors::within(size.value, file.len());
+    let input = byte_part(rest(file, from), n);
     text_is_due(
-        byte_part(&input, n),
+        input,
         byte_part_mut(&mut out, MAX_TEXT),
         file,
-        text,
+        later(from, size.value),
         length.value,
         counts,
     );
-    output_is_short(
-        byte_part(&input, n),
-        byte_part_mut(&mut out, MAX_TEXT - 1),
-        counts,
-    );
-    later(text, length.value)
+    output_is_short(input, byte_part_mut(&mut out, MAX_TEXT - 1), counts);
 }
 
-fn run(file: &[u8], counts: &mut [u64; vectors::COUNTS]) {
-    let mut at: usize = 0;
+// Runs the first of the cases that the buffer holds, where it is whole, and reads on; answers how many bytes the buffer holds then.
+fn run_first(file: &mut [u8], filled: usize, counts: &mut [u64; vectors::COUNTS]) -> usize {
+    let end = case_end(byte_part(file, filled));
+    if filled < end {
+        return filled;
+    }
+    run_case(byte_part(file, filled), counts);
+    vectors::refill(file, filled, end)
+}
+
+// Runs the cases of standard input, one after the other. Answers how many bytes are left at the end: none, but where a case is not whole, a case is
+// longer than the buffer, or there are more than a thousand cases.
+fn run_input(file: &mut [u8], counts: &mut [u64; vectors::COUNTS]) -> usize {
+    let mut filled = vectors::refill(file, 0, 0);
     let mut cases: usize = 0;
     while cases < 1000 {
-        if file.len() <= at {
-            return;
+        if filled == 0 {
+            return filled;
         }
-        at = run_case(file, at, counts);
+        filled = run_first(file, filled, counts);
         cases += 1;
     }
+    filled
 }
 
 fn main() {
-    let mut file = [0u8; 524288];
-    let n = io::read_full(STDIN_FILENO, &mut file);
+    let mut file = io::large_buffer();
     let mut counts = [0u64; vectors::COUNTS];
-    run(&file[..n], &mut counts);
+    let left = run_input(&mut file, &mut counts);
     vectors::print_tally(b"text", &counts, 1);
     vectors::print_tally(b"output a byte short", &counts, 2);
     vectors::print_tally(b"text a byte later", &counts, 3);
+    vectors::print_count(b"bytes not run", left as u64);
+    vectors::print_text(b"\n");
 }

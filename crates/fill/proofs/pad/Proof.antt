@@ -51,6 +51,9 @@ returns-2 c =
 last-filled-requires : tie.Need-last-filled-requires Inv-loop μ-loop
 last-filled-requires c κs = search needs
 
+padding-row-requires : tie.Need-padding-row-requires Inv-loop μ-loop
+padding-row-requires c κs = search needs
+
 words-requires : tie.Need-words-requires Inv-loop μ-loop
 words-requires c κs = search needs
 
@@ -67,20 +70,17 @@ returns-3 : tie.Need-returns-3 Inv-loop μ-loop
 returns-3 c =
     let a = c .before in
     let w = a .before .before in
-    let l = w .before in
+    let l = w .before .before in
     let r = l .before .before in
     let t = r .before in
     let h = t .before in
     pad-unreduced _ _ (sym (h .has-shape .ensures) ∙ not-false _ (t .if1 .left)) (r .if2 .left)
     (sym (words-judged (w .words .ensures) (l .last-filled .ensures) (a .all-reduced .ensures)) ∙ not-true _ (c .if3 .taken))
 
-padding-row-requires : tie.Need-padding-row-requires Inv-loop μ-loop
-padding-row-requires c κs = search needs
-
 loop-holds : tie.Need-loop-holds Inv-loop μ-loop
 loop-holds c =
     let s = c .before .before .before .before .before .before .before .before .before .before .before .before in
-    (search needs, search needs, refl, pad-start (s .args .table .now) (s .args .filled) (rowOf (c .padding-row .result)))
+    (search needs, search needs, refl, pad-start (s .args .table .now) (s .args .filled) (rowOf (c .before .before .before .before .padding-row .result)))
 
 put-requires : tie.Need-put-requires Inv-loop μ-loop
 put-requires c κs = search needs
@@ -110,11 +110,11 @@ same-length-4 c = c .before .loop .inv .2
 returns-4 : tie.Need-returns-4 Inv-loop μ-loop
 returns-4 c =
     let p = c .before in
-    let q = p .before in
-    let u = q .before in
+    let u = p .before in
     let a = u .before in
     let w = a .before .before in
-    let l = w .before in
+    let q = w .before in
+    let l = q .before in
     let r = l .before .before in
     let t = r .before in
     let h = t .before in
@@ -140,12 +140,12 @@ pad-spec =
     same-length-2
     returns-2
     last-filled-requires
+    padding-row-requires
     words-requires
     slice-aggregate-all-reduced
     all-reduced-requires
     same-length-3
     returns-3
-    padding-row-requires
     loop-holds
     put-requires
     add-row

@@ -20,16 +20,16 @@ slice-aggregate-put-answer c = search needs
 
 put-answer-requires : tie.Need-put-answer-requires
 put-answer-requires c κs =
-    let read = c .before .before .before .before .before .before .before .before .read-text in
-    (search needs, search needs, search needs, text-within _ _ (c .before .before .before .before .stage .given .1) (read .ensures))
+    let read = c .before .before .before .before .before .before .before .read-text in
+    (search needs, search needs, text-within _ _ (c .before .before .before .stage .given .1) (read .ensures))
 
 array-share-prefix-out : tie.Need-array-share-prefix-out
 array-share-prefix-out c = search needs
 
 slice-aggregate-write-all : tie.Need-slice-aggregate-write-all
 slice-aggregate-write-all c =
-    let put = c .before .before .before .before .before .before .put-answer in
-    sym (length-take-le (put .result) (put .last .1 .1 .1 .0) (search needs))
+    let put = c .before .before .before .before .put-answer in
+    sym (length-take-le (put .result) (put .last .1 .1 .0) (search needs))
 
 write-all-requires : tie.Need-write-all-requires
 write-all-requires c κs = search needs
@@ -42,9 +42,6 @@ returns c = search needs
 
 same-length-2 : tie.Need-same-length-2
 same-length-2 c = search needs
-
-same-length-3 : tie.Need-same-length-3
-same-length-3 c = search needs
 
 returns-2 : tie.Need-returns-2
 returns-2 c = search needs
@@ -64,5 +61,4 @@ run-spec =
     same-length
     returns
     same-length-2
-    same-length-3
     returns-2)
