@@ -1,4 +1,4 @@
-/* The U32 table of Triton VM, proved: record, compare, plan, read, write, fill, pad, extend, check.
+/* The U32 table of Triton VM, proved: record, replay, compare, plan, read, write, fill, pad, extend, check.
  *
  * The functions stand in crates/u32_table. `rt staticlib u32_table` proves them and writes target/staticlib/libu32_table.a for x86-64 Linux:
  *
@@ -20,6 +20,9 @@
  * than U32_TABLE_.._ANSWERS says, the call returns U32_TABLE_SHAPE before anything else is looked at. Words past those stated are not
  * touched.
  *
+ * u32_table_replay alone is otherwise: it makes many steps and ends at the first that is refused. The list is then as the steps before it made it,
+ * and `answers` says on a refusal too how many these are.
+ *
  * Later libraries may have more numbers than those named here.
  *
  * Elements are words below U32_TABLE_P, the canonical value of an element and not its Montgomery form; an element of the extension is three words
@@ -35,7 +38,8 @@ extern "C" {
 #endif
 
 /* The number of the signatures below, as a symbol of the library: each program names it here, so one that was compiled for other signatures than
- * the library has does not link. The number is raised whenever a signature changes: here, in crates/u32_table and in the Rust crate. */
+ * the library has does not link. The number is raised whenever a signature changes: here, in crates/u32_table and in the Rust crate. A function that
+ * is added changes no signature: a program that calls it does not link with a library that lacks it. */
 uint64_t u32_table_abi_1(void);
 #ifdef __has_attribute
 #if __has_attribute(retain)
@@ -48,7 +52,7 @@ __attribute__((used)) static uint64_t (*const u32_table_abi)(void) = u32_table_a
 enum {
     U32_TABLE_DONE = 0,
     U32_TABLE_SHAPE = 1,      /* an array has the wrong length, or sizes are out of range */
-    U32_TABLE_STRANGER = 2,   /* an opcode that is none of the six */
+    U32_TABLE_STRANGER = 2,   /* an opcode that is none of the six; in u32_table_replay, none of the ten */
     U32_TABLE_WIDE = 3,       /* an operand outside its range; the left one of pow has none but in stored bytes */
     U32_TABLE_BARE_LOG = 4,   /* log_2_floor of 0 */
     U32_TABLE_COUNT_FULL = 5, /* a multiplicity above U32_TABLE_P - 1; in recording, if one more would pass that */
@@ -58,7 +62,8 @@ enum {
     U32_TABLE_FLAT = 9,       /* a row with CopyFlag 1 whose denominator is (0, 0, 0); see u32_table_extend */
     U32_TABLE_TORN = 10,      /* stored bytes of neither of the two lengths, or more than 2,048 entries in them */
     U32_TABLE_REPEAT = 11,    /* equal keys in stored bytes, or in a list to be written */
-    U32_TABLE_TALLY = 12      /* the stored height is not the sum of the entries' heights */
+    U32_TABLE_TALLY = 12,     /* the stored height is not the sum of the entries' heights */
+    U32_TABLE_ZERO_DIVISOR = 13 /* div_mod by 0, in u32_table_replay */
 };
 
 /* The six opcodes. */
@@ -70,6 +75,9 @@ enum {
     U32_TABLE_POP_COUNT = 28,
     U32_TABLE_POW = 30
 };
+
+/* Four more that a trace may have; see u32_table_replay. No entry has one of them. */
+enum { U32_TABLE_DIV_MOD = 20, U32_TABLE_XOR = 22, U32_TABLE_MERKLE_STEP = 36, U32_TABLE_MERKLE_STEP_MEM = 44 };
 
 /* What u32_table_compare answers. */
 enum { U32_TABLE_LESS = 0, U32_TABLE_EQUAL = 1, U32_TABLE_GREATER = 2 };
@@ -92,6 +100,7 @@ enum {
     U32_TABLE_MAX_PLACES = 2048,   /* places of a list, at most */
     U32_TABLE_MAX_ROWS = 131072,   /* rows of a table, at most */
     U32_TABLE_KEY_WORDS = 3,       /* words of a key: opcode, left operand, right operand */
+    U32_TABLE_STEP_WORDS = 3,      /* words of a step of a trace: opcode, first value, second value */
     U32_TABLE_COLUMNS = 10,        /* words of a row */
     U32_TABLE_AUX_COLUMNS = 3,     /* aux words of a row: the sum so far */
     U32_TABLE_CHALLENGE_WORDS = 15 /* Indeterminate, LhsWeight, RhsWeight, CiWeight, ResultWeight, three words each */
@@ -107,6 +116,7 @@ enum {
 /* How many words of `answers` each call states; u32_table_pad has none. */
 enum {
     U32_TABLE_RECORD_ANSWERS = 2,
+    U32_TABLE_REPLAY_ANSWERS = 2,
     U32_TABLE_COMPARE_ANSWERS = 1,
     U32_TABLE_PLAN_ANSWERS = 2,
     U32_TABLE_READ_ANSWERS = 1,
@@ -131,6 +141,23 @@ enum {
  * Refusals, in this order: SHAPE; STRANGER; WIDE; BARE_LOG; then COUNT_FULL or LIST_FULL. */
 uint64_t u32_table_record(size_t capacity, size_t used, uint64_t *keys, size_t key_words, uint64_t *multiplicities, size_t places,
                           uint64_t opcode, uint64_t left_operand, uint64_t right_operand, uint64_t *answers, size_t answer_words);
+
+/* Replays a trace onto a list: its steps, three words each (opcode, first value, second value), are recorded in order. Of a step is recorded
+ *
+ *     lt, and, pow            the entry as it is
+ *     log_2_floor, pop_count  the entry with right operand 0
+ *     split of v              split(v mod 2^32, v div 2^32), for v below U32_TABLE_P
+ *     xor of a, b             and(a, b)
+ *     div_mod of n by d       lt(n mod d, d) and split(n, n div d), both or neither, for n and d below 2^32
+ *     merkle_step(_mem) of i  split(i, i div 2), for i below 2^32
+ *
+ * The second value of log_2_floor, pop_count, split and the Merkle steps may be any word. The first refused step ends the replay. It changes nothing:
+ * the list is as the steps before it made it.
+ * Answers, on a refusal too: the steps done; the places used afterwards, which is what to pass as `used` from then on.
+ * Refusals, in this order: SHAPE (of the list, or trace_words is not whole steps), before all steps and with none done; then step by step STRANGER;
+ * WIDE; ZERO_DIVISOR or BARE_LOG; then COUNT_FULL or LIST_FULL. For div_mod a refusal of lt comes before one of split. */
+uint64_t u32_table_replay(size_t capacity, size_t used, uint64_t *keys, size_t key_words, uint64_t *multiplicities, size_t places,
+                          const uint64_t *trace, size_t trace_words, uint64_t *answers, size_t answer_words);
 
 /* Compares two entries by opcode, then left operand, then right operand, whatever words they are, and as they are: two words of one base of pow
  * are not equal here.

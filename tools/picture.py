@@ -21,7 +21,7 @@ KINDS = {
     "program": ("#e0f0df", "#4c8a47", "programs, C calls"),
 }
 KIND = {
-    "field": "call", "xfield": "call", "isa": "call", "list_record": "call", "list_stored": "call", "check_table": "call", "fill": "call",
+    "field": "call", "xfield": "call", "isa": "call", "list_record": "call", "list_replay": "call", "list_stored": "call", "check_table": "call", "fill": "call",
     "extend": "call", "transcript": "call", "sums": "theory", "air": "theory", "row_bound": "theory", "four_calls": "theory",
     "list_round_trips": "theory", "u32list_example": "theory", "u32list": "program", "u32check": "program", "u32_table": "program",
 }  # fmt: skip
@@ -30,7 +30,7 @@ KIND = {
 ROOMS = {
     "words, entries": {"words": 1, "isa": 1},
     "elements": {"field": 3, "xfield": 3},
-    "lists": {"list": 1, "list_record": 0, "list_bytes": 1, "list_repeats": 2, "list_stored": 1, "list_round_trips": 1},
+    "lists": {"list": 1, "list_record": 0, "list_replay": 0, "list_bytes": 1, "list_repeats": 2, "list_stored": 1, "list_round_trips": 1},
     "table": {"table": 3, "sums": 3},
     "check": {"air": 3, "check_rows": 3, "check_plain": 4, "check_pairs": 3, "check_search": 3, "check_table": 3},
     "filling": {"fill_results": 5, "fill_sections": 5, "fill": 5, "extend": 5},

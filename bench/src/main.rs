@@ -367,6 +367,7 @@ impl Inputs {
         self.record("record, all entries, a hash map", &self.keys, runs);
         let one_lhs: Vec<_> = (0..n as u64).map(|rhs| [30, 2, rhs]).collect();
         self.record("record, as many keys with one LHS, a hash map", &one_lhs, runs);
+        self.replay(runs);
     }
 
     /// The time of our check of a table that passes or not.
@@ -419,6 +420,54 @@ impl Inputs {
             ],
         );
         line(name, ours, theirs, EARLIER.map(|_| earlier));
+    }
+
+    /// A trace of a million steps of the ten opcodes, a thousand of them different, and the same entries recorded one by one: by our call, and into the
+    /// original's hash map.
+    fn replay(&self, runs: usize) {
+        const STEPS: usize = 1_000_000;
+        let mut random = Random(9);
+        let different: Vec<[u64; 3]> = (0..1000)
+            .map(|i| {
+                let (first, second) = (random.word() >> 32 | 1, random.word() >> 32 | 1);
+                [[4, 6, 12, 14, 28, 30, 20, 22, 36, 44][i % 10], first, second]
+            })
+            .collect();
+        let steps: Vec<[u64; 3]> = (0..STEPS).map(|_| random.one_of(&different)).collect();
+        let entries: Vec<[u64; 3]> = steps
+            .iter()
+            .flat_map(|&[opcode, first, second]| match opcode {
+                4 => vec![[4, first, 0]],
+                12 | 28 => vec![[opcode, first, 0]],
+                20 => vec![[6, first % second, second], [4, first, first / second]],
+                22 => vec![[14, first, second]],
+                36 | 44 => vec![[4, first, first / 2]],
+                _ => vec![[opcode, first, second]],
+            })
+            .collect();
+        let empty = || List { keys: vec![0; 3 * MOST_ENTRIES], multiplicities: vec![0; MOST_ENTRIES] };
+        let [mut replayed, mut recorded] = [empty(), empty()];
+        let trace = steps.as_flattened();
+        let [replay, record, theirs] = best(
+            runs,
+            [
+                &mut || assert_eq!(STEPS, port::replay(&mut replayed, 0, trace)[0]),
+                &mut || {
+                    entries.iter().fold(0, |used, &key| OURS.record(&mut recorded, used, key));
+                },
+                &mut || {
+                    let mut trace = reach::empty_trace();
+                    for &[opcode, lhs, rhs] in &entries {
+                        reach::record(&mut trace, U32TableEntry::new(opcode.try_into().unwrap(), B::new(lhs), B::new(rhs)));
+                    }
+                    black_box(&trace);
+                },
+            ],
+        );
+        assert!(replayed.keys == recorded.keys && replayed.multiplicities == recorded.multiplicities);
+        line("replay, a million steps, against its recordings one by one", replay, record, None);
+        line("replay, a million steps, a hash map", replay, theirs, None);
+        println!("replay, {} recordings: {:.0} ns a step", entries.len(), replay * 1e9 / STEPS as f64);
     }
 
     // -------------------------------------------------------------------------------------------------------------------- growth

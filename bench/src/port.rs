@@ -123,6 +123,26 @@ fn done(number: u64) {
 }
 
 /// Height and padded height.
+/// The steps done and the places used afterwards.
+pub fn replay(list: &mut List, used: usize, trace: &[u64]) -> [usize; 2] {
+    let (mut answers, capacity) = ([0; 2], list.capacity());
+    done(unsafe {
+        c::u32_table_replay(
+            capacity,
+            used,
+            list.keys.as_mut_ptr(),
+            list.keys.len(),
+            list.multiplicities.as_mut_ptr(),
+            capacity,
+            trace.as_ptr(),
+            trace.len(),
+            answers.as_mut_ptr(),
+            2,
+        )
+    });
+    answers.map(|word| word as usize)
+}
+
 pub fn plan(list: &List) -> [usize; 2] {
     let (mut answers, capacity) = ([0; 2], list.capacity());
     let (keys, multiplicities) = (list.keys.as_ptr(), list.multiplicities.as_ptr());

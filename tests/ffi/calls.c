@@ -58,10 +58,15 @@ static void refused(const char *what, uint64_t got, uint64_t wanted) {
 }
 
 #define REFUSED(call, wanted) (keep(), refused(#call, call, wanted))
+/* a refusal that says how many steps were done, and leaves the list as it was where there are none */
+#define STOPPED(call, wanted, ...) (keep(), expect(#call, call, wanted), answered(#call, 2, (uint64_t[]){__VA_ARGS__}))
 #define DONE(call, n, ...) (keep(), expect(#call, call, 0), answered(#call, n, (uint64_t[]){__VA_ARGS__}))
 
 static uint64_t record(size_t used, uint64_t opcode, uint64_t lhs, uint64_t rhs) {
     return u32_table_record(PLACES, used, keys, 3 * PLACES, multiplicities, PLACES, opcode, lhs, rhs, answers, WORDS);
+}
+static uint64_t replay(size_t used, const uint64_t *trace, size_t words) {
+    return u32_table_replay(PLACES, used, keys, 3 * PLACES, multiplicities, PLACES, trace, words, answers, WORDS);
 }
 static uint64_t plan(size_t used) {
     return u32_table_plan(PLACES, used, keys, 3 * PLACES, multiplicities, PLACES, answers, WORDS);
@@ -123,6 +128,32 @@ static void lists(void) {
     DONE(record(2, U32_TABLE_POW, U32_TABLE_P - 1, 5), 2, 2, 3);
     DONE(record(3, U32_TABLE_POP_COUNT, pow2_32 - 1, 0), 2, 3, 4);
     REFUSED(record(4, U32_TABLE_SPLIT, 0, 0), U32_TABLE_LIST_FULL);
+
+    /* replaying: ten opcodes; the first refused step ends it, and the list is as the steps before it made it */
+    memset(keys, 0, sizeof keys), memset(multiplicities, 0, sizeof multiplicities);
+    const uint64_t trace[] = {20, 7, 2, 22, 3, 1, 4, UINT64_C(21474836487), UINT64_MAX, 36, 7, 0, 44, 7, 5, 12, 0, 9, 20, 7, 0};
+    DONE(replay(0, trace, 0), 2, 0, 0);
+    DONE(replay(0, trace, 3), 2, 1, 2);
+    STOPPED(replay(2, trace, 21), U32_TABLE_BARE_LOG, 5, 4);
+    expect("replayed keys", keys[0] == 6 && keys[1] == 1 && keys[2] == 2 && keys[3] == 4 && keys[4] == 7 && keys[5] == 3, 1);
+    expect("replayed keys", keys[6] == 14 && keys[7] == 3 && keys[8] == 1 && keys[9] == 4 && keys[10] == 7 && keys[11] == 5, 1);
+    expect("replayed counts", multiplicities[0] == 2 && multiplicities[1] == 4 && multiplicities[2] == 1 && multiplicities[3] == 1, 1);
+    STOPPED(replay(4, trace + 18, 3), U32_TABLE_ZERO_DIVISOR, 0, 4);
+    lists_kept("13 keeps the list");
+    STOPPED(replay(3, (uint64_t[]){6, 9, 9, 20, 11, 4}, 6), U32_TABLE_LIST_FULL, 1, 4);
+    expect("6 in div_mod after one step", keys[9] == 6 && keys[10] == 9 && keys[11] == 9 && multiplicities[3] == 1, 1);
+    multiplicities[0] = U32_TABLE_P - 1;
+    STOPPED(replay(4, (uint64_t[]){20, 9, 2}, 3), U32_TABLE_COUNT_FULL, 0, 4);
+    lists_kept("lt's 5 before split's 6");
+    STOPPED(replay(4, (uint64_t[]){4, U32_TABLE_P, 0}, 3), U32_TABLE_WIDE, 0, 4);
+    STOPPED(replay(4, (uint64_t[]){20, pow2_32, 0}, 3), U32_TABLE_WIDE, 0, 4);
+    STOPPED(replay(4, (uint64_t[]){4 + pow2_32, 0, 0}, 3), U32_TABLE_STRANGER, 0, 4);
+    STOPPED(replay(4, trace, 2), U32_TABLE_SHAPE, 0, 4);
+    STOPPED(replay(5, trace, 0), U32_TABLE_SHAPE, 0, 5);
+    lists_kept("refused steps keep the list");
+    REFUSED(u32_table_replay(PLACES, 0, keys, 3 * PLACES, multiplicities, PLACES, trace, 3, answers, 1), U32_TABLE_SHAPE);
+    put(0, U32_TABLE_AND, 3, 1, 2), put(1, U32_TABLE_LT, 2, 3, 1);
+    put(2, U32_TABLE_POW, U32_TABLE_P - 1, 5, 1), put(3, U32_TABLE_POP_COUNT, pow2_32 - 1, 0, 1);
 
     /* comparison, on any words */
     DONE(u32_table_compare(4, 9, 9, 6, 0, 0, answers, WORDS), 1, U32_TABLE_LESS);

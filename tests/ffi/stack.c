@@ -22,6 +22,13 @@ static void record(void) {
         number = number ? number : got;
     }
 }
+/* half as many steps of div_mod, each with two new keys, on a list of its own */
+static uint64_t trace[3 * PLACES / 2], replayed[3 * PLACES], counts[PLACES];
+static void replay(void) {
+    for (uint64_t i = 0; i < PLACES / 2; i++) trace[3 * i] = U32_TABLE_DIV_MOD, trace[3 * i + 1] = UINT32_MAX - i, trace[3 * i + 2] = i + 7;
+    number = u32_table_replay(PLACES, 0, replayed, 3 * PLACES, counts, PLACES, trace, 3 * PLACES / 2, answers, 8);
+    if (answers[0] != PLACES / 2 || answers[1] != PLACES) number = 99;
+}
 static void compare(void) { number = u32_table_compare(4, 5, 6, 4, 5, 7, answers, 8); }
 static void plan(void) { number = u32_table_plan(PLACES, PLACES, keys, 3 * PLACES, multiplicities, PLACES, answers, 8); }
 static void write(void) {
@@ -66,7 +73,7 @@ int main(void) {
         const char *name;
         void (*call)(void);
         size_t most;
-    } calls[] = {{"record", record, 2000}, {"compare", compare, 2000}, {"plan", plan, 2000}, {"write", write, 52000}, {"read", read, 120000},
+    } calls[] = {{"record", record, 2000}, {"replay", replay, 2000}, {"compare", compare, 2000}, {"plan", plan, 2000}, {"write", write, 52000}, {"read", read, 120000},
                  {"read, old length", read_old, 120000}, {"fill", fill, 12000}, {"pad", pad, 2000}, {"extend", extend, 2000}, {"check", check, 2000}};
     int failed = 0;
     for (int i = 0; i < 15; i++) challenges[i] = (uint64_t)(1000 + 77 * i);

@@ -13,10 +13,11 @@ import json
 import sys
 
 MARK = 7777
-STATED = {"record": 2, "compare": 1, "plan": 2, "read": 1, "write": 1, "fill": 1, "pad": 0, "extend": 3, "check": 7}
+STATED = {"record": 2, "replay": 2, "compare": 1, "plan": 2, "read": 1, "write": 1, "fill": 1, "pad": 0, "extend": 3, "check": 7}
 # the arguments in order: numbers by name, arrays in brackets
 ARGUMENTS = {
     "record": "capacity used [keys] [mults] entry",
+    "replay": "capacity used [keys] [mults] [trace]",
     "compare": "a b",
     "plan": "capacity used [keys] [mults]",
     "read": "[bytes] capacity used [keys] [mults]",
@@ -59,10 +60,13 @@ def make(library, vector, words):
 
 def wanted(vector):
     """The number and the answers that are due."""
+    call = vector["call"]
+    if call == "replay":  # on a refusal too: the steps done and the places used
+        *number, steps = vector["answer"][1:]
+        return int(number[0]) if number else 0, [int(steps), int(vector["after"]["used"])]
     kind, value = vector["answer"]
     if kind == "refused":
         return int(value), []
-    call = vector["call"]
     if call == "record":
         return 0, [int(value), int(vector["after"]["used"])]
     if call == "compare":
@@ -90,14 +94,15 @@ def differs(library, vector):
 
 def wrong_ones(vector):
     """The vector with one number of its answer wrong, or one word of an array afterwards."""
-    kind, value = vector["answer"]
-    words = value if isinstance(value, list) else [value]
-    for i, word in enumerate(words):
-        if isinstance(word, str) and word.isdigit():
-            wrong = copy.deepcopy(vector)
-            other = str(int(word) ^ 1)
-            wrong["answer"] = [kind, other if value is word else words[:i] + [other] + words[i + 1:]]
-            yield wrong
+    kind, *values = vector["answer"]
+    for place, value in enumerate(values):
+        words = value if isinstance(value, list) else [value]
+        for i, word in enumerate(words):
+            if isinstance(word, str) and word.isdigit():
+                wrong = copy.deepcopy(vector)
+                other = str(int(word) ^ 1)
+                wrong["answer"][place + 1] = other if value is word else words[:i] + [other] + words[i + 1:]
+                yield wrong
     for name in vector.get("after", {}):
         old = content(name, vector["after"][name]) if f"[{name}]" in ARGUMENTS[vector["call"]] else []
         for place in {0, len(old) // 2, len(old) - 1} if old else ():

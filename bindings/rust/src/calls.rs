@@ -1,5 +1,6 @@
-//! The nine calls over slices.
+//! The ten calls over slices.
 use std::cmp::Ordering;
+use std::error::Error;
 use std::fmt;
 
 use crate::refusal::done;
@@ -59,6 +60,41 @@ pub struct Sizes {
 impl Sizes {
     fn numbers(self) -> [usize; 2] {
         [self.capacity, self.used]
+    }
+}
+
+/// Where and why a replay stopped: step number `done`, from 0, is refused. The steps before it are on the list; for the refusal shape there are none.
+///
+/// ```
+/// use u32_table::{steps::DIV_MOD, List, Refusal};
+/// let mut list = List::new(2).unwrap();
+/// let stopped = list.replay(&[DIV_MOD, 7, 2, DIV_MOD, 7, 0]).unwrap_err();
+/// assert_eq!((stopped.done, stopped.refusal), (1, Refusal::ZeroDivisor));
+/// assert_eq!(stopped.to_string(), "refused 13 (zero divisor) after 1 steps");
+/// ```
+#[derive(Clone, Copy, Debug, PartialEq, Eq, Hash)]
+pub struct Stopped {
+    /// Why the step is refused.
+    pub refusal: Refusal,
+    /// How many steps were done before it.
+    pub done: usize,
+}
+
+impl fmt::Display for Stopped {
+    fn fmt(&self, f: &mut fmt::Formatter<'_>) -> fmt::Result {
+        write!(f, "{} after {} steps", self.refusal, self.done)
+    }
+}
+
+impl Error for Stopped {
+    fn source(&self) -> Option<&(dyn Error + 'static)> {
+        Some(&self.refusal)
+    }
+}
+
+impl From<Stopped> for Refusal {
+    fn from(stopped: Stopped) -> Refusal {
+        stopped.refusal
     }
 }
 
@@ -209,6 +245,42 @@ pub fn record(sizes: &mut Sizes, keys: &mut [u64], multiplicities: &mut [u64], e
     done(sys::record(sizes.numbers(), keys, multiplicities, entry.words(), &mut answers))?;
     sizes.used = answers[1] as usize;
     Ok(answers[0] as usize)
+}
+
+/// Replays a trace onto a list: its steps, three words each (opcode, first value, second value), are recorded in order. The answer is how many.
+///
+/// | step | is recorded as |
+/// |---|---|
+/// | lt, and, pow | the entry as it is |
+/// | log_2_floor, pop_count | the entry with right operand 0 |
+/// | split of v below [`P`](crate::P) | split(v mod 2^32, v div 2^32) |
+/// | xor of a, b | and(a, b) |
+/// | div_mod of n by d, both below 2^32 | lt(n mod d, d) and split(n, n div d), both or neither |
+/// | merkle_step, merkle_step_mem of i below 2^32 | split(i, i div 2) |
+///
+/// The second value of log_2_floor, pop_count, split and the Merkle steps may be any word.
+///
+/// The first refused step ends the replay. It has changed nothing: the list is as the steps before it made it, and [`Stopped`] says how many these
+/// are and why the next one is refused.
+///
+/// Refusals, in this order: shape (of the list, or the trace is not of whole steps), before all steps and with none done; then step by step stranger;
+/// wide; zero divisor or bare log; then count full or list full. For div_mod a refusal of lt comes before one of split.
+///
+/// ```
+/// use u32_table::{opcodes::{AND, LT, SPLIT}, replay, steps::{DIV_MOD, XOR}, Refusal, Sizes, Stopped};
+/// let (mut sizes, mut keys, mut multiplicities) = (Sizes { capacity: 3, used: 0 }, [0; 9], [0; 3]);
+/// let trace = [XOR, 3, 1, DIV_MOD, 7, 2, AND, 3, 1, DIV_MOD, 7, 0, XOR, 3, 1];
+/// let stopped = replay(&mut sizes, &mut keys, &mut multiplicities, &trace);
+/// assert_eq!(stopped, Err(Stopped { refusal: Refusal::ZeroDivisor, done: 3 }));
+/// assert_eq!((sizes.used, keys), (3, [AND, 3, 1, LT, 1, 2, SPLIT, 7, 3]));
+/// assert_eq!(multiplicities, [2, 1, 1]);
+/// ```
+pub fn replay(sizes: &mut Sizes, keys: &mut [u64], multiplicities: &mut [u64], trace: &[u64]) -> Result<usize, Stopped> {
+    let mut answers = [0; 2];
+    let number = sys::replay(sizes.numbers(), keys, multiplicities, trace, &mut answers);
+    let steps = answers[0] as usize;
+    sizes.used = answers[1] as usize;
+    done(number).map(|()| steps).map_err(|refusal| Stopped { refusal, done: steps })
 }
 
 /// The rows that a list needs.

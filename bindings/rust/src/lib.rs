@@ -5,7 +5,8 @@
 //! the first polynomial that is not zero, or says that all are. When all are, each row that stands for an instruction tells the truth, whoever
 //! made the table.
 //!
-//! Every call takes any input at all: it does the work, or it answers a [`Refusal`] and has changed nothing. The functions behind are
+//! Every call takes any input at all: it does the work, or it answers a [`Refusal`] and has changed nothing. [`replay`] makes many steps: of it this is
+//! said of the refused step, and [`Stopped`] tells how many were done before it. The functions behind are
 //! proved to do so, to stay within what they are lent, and to end. This crate adds arrays that are large enough, types and names; no call of it
 //! panics.
 //!
@@ -30,7 +31,7 @@
 //! # }
 //! ```
 //!
-//! The nine calls stand here too as functions over slices, for arrays that a program has already.
+//! The ten calls stand here too as functions over slices, for arrays that a program has already.
 //!
 //! # Words and elements
 //!
@@ -62,8 +63,8 @@ mod refusal;
 mod sys;
 mod table;
 
-pub use calls::{check, compare, extend, fill, pad, plan, read, record, refused_entry, write};
-pub use calls::{Entry, Group, Plan, Sizes, Verdict};
+pub use calls::{check, compare, extend, fill, pad, plan, read, record, refused_entry, replay, write};
+pub use calls::{Entry, Group, Plan, Sizes, Stopped, Verdict};
 pub use list::List;
 pub use opcode::Opcode;
 pub use refusal::Refusal;
@@ -80,6 +81,9 @@ pub const MAX_ROWS: usize = 131072;
 
 /// Words of a key: opcode, left operand, right operand.
 pub const KEY_WORDS: usize = 3;
+
+/// Words of a step of a trace: opcode, first value, second value.
+pub const STEP_WORDS: usize = 3;
 
 /// Words of a row.
 pub const COLUMNS: usize = 10;
@@ -119,6 +123,18 @@ pub mod opcodes {
     pub const POW: u64 = Opcode::Pow.word();
     /// All six.
     pub const ALL: [u64; 6] = [SPLIT, LT, LOG_2_FLOOR, AND, POP_COUNT, POW];
+}
+
+/// The opcodes that a trace may have beside the six; see [`replay`].
+pub mod steps {
+    /// Quotient and remainder.
+    pub const DIV_MOD: u64 = 20;
+    /// Bitwise exclusive or.
+    pub const XOR: u64 = 22;
+    /// A step along a Merkle tree.
+    pub const MERKLE_STEP: u64 = 36;
+    /// The same with its digest in memory.
+    pub const MERKLE_STEP_MEM: u64 = 44;
 }
 
 /// The places of the columns in a row.

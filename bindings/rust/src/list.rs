@@ -1,4 +1,4 @@
-use crate::{calls, stored_bytes, Entry, Plan, Refusal, Sizes, KEY_WORDS};
+use crate::{calls, stored_bytes, Entry, Plan, Refusal, Sizes, Stopped, KEY_WORDS};
 
 /// A list of entries with their multiplicities, that owns its two arrays.
 ///
@@ -45,6 +45,23 @@ impl List {
     /// Records an entry; see [`record`](crate::record). The answer is the position of its key.
     pub fn record(&mut self, entry: Entry) -> Result<usize, Refusal> {
         calls::record(&mut self.sizes, &mut self.keys, &mut self.multiplicities, entry)
+    }
+
+    /// Records the steps of a trace, three words each, up to the first that is refused; see [`replay`](crate::replay). The answer is how many; where the
+    /// replay stops, how many and why.
+    ///
+    /// ```
+    /// # fn main() -> Result<(), u32_table::Refusal> {
+    /// use u32_table::{opcodes::LT, steps::DIV_MOD, List, Refusal, Stopped};
+    /// let mut list = List::new(16)?;
+    /// assert_eq!(list.replay(&[DIV_MOD, 7, 2, LT, 1, 2])?, 2);
+    /// assert_eq!(list.replay(&[LT, 1, 2, DIV_MOD, 7, 0]), Err(Stopped { refusal: Refusal::ZeroDivisor, done: 1 }));
+    /// assert_eq!(list.multiplicities()[..2], [3, 1]);
+    /// # Ok(())
+    /// # }
+    /// ```
+    pub fn replay(&mut self, trace: &[u64]) -> Result<usize, Stopped> {
+        calls::replay(&mut self.sizes, &mut self.keys, &mut self.multiplicities, trace)
     }
 
     /// The rows that the list needs; see [`plan`](crate::plan).

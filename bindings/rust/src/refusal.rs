@@ -4,7 +4,7 @@ use std::fmt;
 /// Makes [`Refusal`] and what is said of each reason: a line a reason, with its number and its word.
 macro_rules! refusals {
     ($($(#[$said:meta])* $number:literal $name:ident $word:literal,)*) => {
-        /// A reason to decline. A call that declines has changed nothing.
+        /// A reason to decline. A call that declines has changed nothing; of [`replay`](crate::replay) this is said of the refused step.
         #[derive(Clone, Copy, Debug, PartialEq, Eq, PartialOrd, Ord, Hash)]
         #[non_exhaustive]
         pub enum Refusal {
@@ -61,9 +61,9 @@ macro_rules! refusals {
 refusals! {
     /// An array has the wrong length, or the sizes are out of range: keys are three words a place, multiplicities one a place, used
     /// is at most the capacity and that at most [`MAX_PLACES`](crate::MAX_PLACES); a table is whole rows, at most
-    /// [`MAX_ROWS`](crate::MAX_ROWS); aux is three words a row; challenges are fifteen words.
+    /// [`MAX_ROWS`](crate::MAX_ROWS); aux is three words a row; challenges are fifteen words; a trace is three words a step.
     1 Shape "shape",
-    /// An opcode that is none of the six.
+    /// An opcode that is none of the six; in [`replay`](crate::replay), none of the ten.
     2 Stranger "stranger",
     /// An operand outside its range. The left one of pow has none, but in stored bytes it is below [`P`](crate::P).
     3 Wide "wide",
@@ -85,6 +85,8 @@ refusals! {
     11 Repeat "repeat",
     /// The stored height is not the sum of the entries' heights.
     12 Tally "tally",
+    /// div_mod by 0, in [`replay`](crate::replay).
+    13 ZeroDivisor "zero divisor",
 }
 
 /// As in `refused 10 (torn)`.

@@ -31,6 +31,29 @@ pub fn record(
     }
 }
 
+pub fn replay(
+    [capacity, used]: [usize; 2],
+    keys: &mut [u64],
+    multiplicities: &mut [u64],
+    trace: &[u64],
+    answers: &mut [u64; 2],
+) -> u64 {
+    unsafe {
+        c::u32_table_replay(
+            capacity,
+            used,
+            keys.as_mut_ptr(),
+            keys.len(),
+            multiplicities.as_mut_ptr(),
+            multiplicities.len(),
+            trace.as_ptr(),
+            trace.len(),
+            answers.as_mut_ptr(),
+            answers.len(),
+        )
+    }
+}
+
 pub fn compare(entry: [u64; 3], other: [u64; 3], answers: &mut [u64; 1]) -> u64 {
     unsafe {
         c::u32_table_compare(entry[0], entry[1], entry[2], other[0], other[1], other[2], answers.as_mut_ptr(), answers.len())

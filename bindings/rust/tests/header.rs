@@ -2,7 +2,9 @@
 use std::collections::{BTreeMap, BTreeSet};
 use std::fs;
 use std::path::Path;
-use u32_table::{column, Opcode, Refusal, AUX_COLUMNS, CHALLENGE_WORDS, COLUMNS, KEY_WORDS, MAX_PLACES, MAX_ROWS, P};
+use u32_table::{
+    column, steps, Opcode, Refusal, AUX_COLUMNS, CHALLENGE_WORDS, COLUMNS, KEY_WORDS, MAX_PLACES, MAX_ROWS, P, STEP_WORDS,
+};
 
 fn file(path: &str) -> String {
     fs::read_to_string(Path::new(env!("CARGO_MANIFEST_DIR")).join("../..").join(path)).unwrap()
@@ -27,6 +29,14 @@ fn numbers_are_those_of_the_header() {
     for opcode in Opcode::ALL {
         same(&opcode.name().to_uppercase(), opcode.word());
     }
+    for (name, word) in [
+        ("DIV_MOD", steps::DIV_MOD),
+        ("XOR", steps::XOR),
+        ("MERKLE_STEP", steps::MERKLE_STEP),
+        ("MERKLE_STEP_MEM", steps::MERKLE_STEP_MEM),
+    ] {
+        same(name, word);
+    }
     for (name, place) in [
         ("COPY_FLAG", column::COPY_FLAG),
         ("BITS", column::BITS),
@@ -41,6 +51,7 @@ fn numbers_are_those_of_the_header() {
         ("MAX_PLACES", MAX_PLACES),
         ("MAX_ROWS", MAX_ROWS),
         ("KEY_WORDS", KEY_WORDS),
+        ("STEP_WORDS", STEP_WORDS),
         ("COLUMNS", COLUMNS),
         ("AUX_COLUMNS", AUX_COLUMNS),
         ("CHALLENGE_WORDS", CHALLENGE_WORDS),
@@ -97,5 +108,5 @@ fn declarations_are_those_of_the_header() {
     let declared = file("bindings/rust/sys/src/lib.rs");
     let declared = signatures(declared.split("extern \"C\"").next().unwrap(), " fn ", in_rust);
     assert_eq!(header, declared);
-    assert_eq!(header.len(), 9);
+    assert_eq!(header.len(), 10);
 }

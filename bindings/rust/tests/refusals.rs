@@ -20,9 +20,9 @@ fn numbers_and_words() {
         assert_eq!(Refusal::from_number(reason.number()), Some(reason));
         assert_eq!(reason.to_string(), format!("refused {} ({})", i + 1, reason.word()));
     }
-    assert_eq!(Refusal::all().len(), 12);
+    assert_eq!(Refusal::all().len(), 13);
     // a number without a name is kept
-    for number in [13, 17, u64::MAX] {
+    for number in [14, 17, u64::MAX] {
         let other = Refusal::from_number(number).unwrap();
         assert_eq!((other, other.number()), (Other(number), number));
         assert_eq!(other.to_string(), format!("refused {number} (without a name)"));

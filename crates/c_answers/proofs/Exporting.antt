@@ -1,5 +1,5 @@
 -- The three ways out of a C function: `answers` is too short; the work is done; the call refuses. Each gives the number, `answers` and the
--- other lent arrays that are due. Assumes nothing.
+-- other lent arrays that are due. A call that reports on a refusal too has two: `answers` is too short, or the call was made. Assumes nothing.
 use Prim.Native.Nat.{ℕ, _<_, _≤_}
 use mathlib.Core.Path.{_≡_, sym, ap, _∙_}
 use mathlib.Core.Bool.{false}
@@ -13,7 +13,7 @@ use Rattle.words.specs.Answers.{Answer, done, declined}
 use Rattle.words.specs.Refusals.{refusalNumber}
 use Rattle.words.specs.declared.Refusal.{Refusal}
 use Rattle.words.proofs.Answers.{number-positive}
-use Rattle.c_answers.specs.Exports.{lentDue, Exported}
+use Rattle.c_answers.specs.Exports.{lentDue, Exported, Reported}
 
 -- `answers` is too short: number 1, and nothing lent is touched
 pub short : (size : ℕ) (due : Answer) (answers : List ℕ) → length answers < size → Exported size due answers 1 answers
@@ -48,6 +48,23 @@ refused-by-number {size} {r} {due} {answers} reason h n e =
 pub refused : {size r : ℕ} {due : Answer} {answers : List ℕ} (reason : Refusal)
     → size ≤ length answers → r ≡ refusalNumber reason → declined reason ≡ due → Exported size due answers r answers
 refused reason h n e = refused-by-number reason h n (ap (λ (a : Answer). a .number) e)
+
+-- a call that reports on a refusal too
+pub short-reported : (size : ℕ) (due : Answer) (answers : List ℕ) → length answers < size → Reported size due answers 1 answers
+short-reported size due answers h = record {
+  number = rw (lt-ltb (length answers) size h);
+  answers = rw (lt-ltb (length answers) size h);
+  fits = λ l. absurd (omega arith);
+}
+
+pub reported : {size r : ℕ} {due : Answer} {answers values : List ℕ}
+    → size ≤ length answers → r ≡ due .number → values ≡ due .values → length values ≤ size → Reported size due answers r (sets answers 0 values)
+reported {size} {r} {due} {answers} {values} h n e f =
+    record {
+      number = rw (le-ltb (length answers) size h) n;
+      answers = rw (le-ltb (length answers) size h, ← e);
+      fits = λ l. rw (← e) f;
+    }
 
 -- the call was made: another lent array is as the call leaves it
 pub lent-called : (size : ℕ) (answers before due after : List ℕ)

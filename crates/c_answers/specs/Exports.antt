@@ -29,6 +29,11 @@ abbrev pub answersDue : ℕ → List ℕ → Answer → List ℕ
 answersDue size answers due =
     cond (tooShort size answers) answers (cond (eqb (due .number) 0) (sets answers 0 (due .values)) answers)
 
+-- the words of `answers` after a call that reports on a refusal too ("returns its number and how many were done"): the values stand first,
+-- whatever the number is
+abbrev pub reportDue : ℕ → List ℕ → Answer → List ℕ
+reportDue size answers due = cond (tooShort size answers) answers (sets answers 0 (due .values))
+
 -- another lent array afterwards: as it was where `answers` is too short, else as the call leaves it
 unfoldable pub lentDue : ℕ → List ℕ → List ℕ → List ℕ → List ℕ
 lentDue size answers before after = cond (tooShort size answers) before after
@@ -38,3 +43,9 @@ pub record Exported (size : ℕ) (due : Answer) (before : List ℕ) (r : ℕ) (a
   pub number : r ≡ numberDue size before due
   pub answers : after ≡ answersDue size before due
   pub fits : size ≤ length before → due .number ≡ 0 → length (due .values) ≤ size
+
+-- the same for a call that reports on a refusal too
+pub record Reported (size : ℕ) (due : Answer) (before : List ℕ) (r : ℕ) (after : List ℕ) : Type 0 where
+  pub number : r ≡ numberDue size before due
+  pub answers : after ≡ reportDue size before due
+  pub fits : size ≤ length before → length (due .values) ≤ size

@@ -9,7 +9,7 @@ use Rattle.isa.specs.declared.Order.the-variants.{Less, Equal, Greater}
 use Rattle.isa.specs.Entries.{compareEntries}
 use Rattle.list.specs.Lists.{U32List, used}
 
--- "the answer is the key's position", then the places used afterwards, which "change with a recording"
+-- "the answer is the key's position", or "how many were done"; then the places used afterwards, which "change with a recording"
 abbrev pub withUsed : Outcome U32List → Answer
 withUsed due =
     record { number = due .answer .number; values = due .answer .values ++ (used (due .left) ∷ []) }

@@ -4,8 +4,9 @@ ghost use mathlib.Core.Path.{_≡_};
 ghost use Rattle.isa.specs.Entries.{entry};
 ghost use Rattle.list_record.specs.Plan.{planAll};
 ghost use Rattle.list_record.specs.Recording.{recordAll};
+ghost use Rattle.list_replay.specs.Replay.{replayAll};
 ghost use Rattle.list_stored.specs.Stored.{readAll, writeAll};
-ghost use Rattle.c_answers.specs.Exports.{lentList, lentDue, Exported};
+ghost use Rattle.c_answers.specs.Exports.{lentList, lentDue, Exported, Reported};
 ghost use Rattle.c_lists.specs.ListAnswers.{withUsed, orderNumber, compareAll};
 use c_answers::SHAPE;
 use isa::Order;
@@ -13,11 +14,14 @@ use isa::U32TableEntry;
 use list_record::Planned;
 use list_record::Recorded;
 use list_record::Sizes;
+use list_replay::Replayed;
 use list_stored::Read;
 use list_stored::Written;
 
 // How many words of `answers` each call states.
 const RECORD_ANSWERS: usize = 2;
+
+const REPLAY_ANSWERS: usize = 2;
 
 const COMPARE_ANSWERS: usize = 1;
 
@@ -62,6 +66,39 @@ pub fn record_entry(
             0
         }
         Recorded::Refused(reason) => reason.number(),
+    }
+}
+
+// Answers, on a refusal too: the steps done, and the places used afterwards.
+pub fn replay(
+    capacity: usize,
+    used: usize,
+    keys: &mut [u64],
+    multiplicities: &mut [u64],
+    trace: &[u64],
+    answers: &mut [u64],
+) -> u64
+    ensures answers { λ r. ⌜ Reported 2 (withUsed (replayAll (lentList capacity used (now (keys .entry)) (now (multiplicities .entry))) (now (trace .entry)))) (now (answers .entry)) r (now (answers .exit)) ⌝ }
+    ensures keys { λ _. ⌜ now (keys .exit) ≡ lentDue 2 (now (answers .entry)) (now (keys .entry)) (replayAll (lentList capacity used (now (keys .entry)) (now (multiplicities .entry))) (now (trace .entry)) .left .keys) ⌝ }
+    ensures multiplicities { λ _. ⌜ now (multiplicities .exit) ≡ lentDue 2 (now (answers .entry)) (now (multiplicities .entry)) (replayAll (lentList capacity used (now (keys .entry)) (now (multiplicities .entry))) (now (trace .entry)) .left .multiplicities) ⌝ }
+{
+    if answers.len() < REPLAY_ANSWERS {
+        return SHAPE;
+    }
+    let sizes = Sizes { capacity, used };
+    let made = list_replay::replay(sizes, keys, multiplicities, trace);
+    let answer = made.answer;
+    match answer {
+        Replayed::Done(steps) => {
+            answers[0] = steps as u64;
+            answers[1] = made.sizes.used as u64;
+            0
+        }
+        Replayed::Stopped { reason, done } => {
+            answers[0] = done as u64;
+            answers[1] = made.sizes.used as u64;
+            reason.number()
+        }
     }
 }
 

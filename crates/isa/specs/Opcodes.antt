@@ -21,6 +21,19 @@ opPopCount = 28
 abbrev pub opPow : ℕ
 opPow = 30
 
+-- Request 1 names four more, which a trace has and the table has not: "Div_mod (20)", "Xor (22)", "Merkle steps (36, 44)".
+abbrev pub opDivMod : ℕ
+opDivMod = 20
+
+abbrev pub opXor : ℕ
+opXor = 22
+
+abbrev pub opMerkleStep : ℕ
+opMerkleStep = 36
+
+abbrev pub opMerkleStepMem : ℕ
+opMerkleStepMem = 44
+
 -- one of the six
 unfoldable pub isOpcode : ℕ → Bool
 isOpcode o = eqb o opSplit || (eqb o opLt || (eqb o opLog2Floor || (eqb o opAnd || (eqb o opPopCount || eqb o opPow))))

@@ -24,6 +24,15 @@ pub const POP_COUNT: u64 = 28;
 
 pub const POW: u64 = 30;
 
+// Instructions of a trace that are no opcodes of the table.
+pub const DIV_MOD: u64 = 20;
+
+pub const XOR: u64 = 22;
+
+pub const MERKLE_STEP: u64 = 36;
+
+pub const MERKLE_STEP_MEM: u64 = 44;
+
 // Operands are below this, but the left one of pow is taken modulo p.
 pub const OPERAND_LIMIT: u64 = 4294967296;
 

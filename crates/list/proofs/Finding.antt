@@ -1,11 +1,12 @@
 -- What a search finds. find-hit, find-miss and find-none are its steps, for a loop that goes from place i to n. find-within, find-holds and
--- find-first say what the place is: the first used one whose entry is the key's, or `used` where none is. Assumes nothing.
+-- find-first say what the place is: the first used one whose entry is the key's, or `used` where none is. find-cong: a search asks the entries at
+-- its places alone. find-more: one place more is found before, or tested last. Assumes nothing.
 use Prim.Native.Nat.{ℕ, zero, suc, _+_, _*_, _-_, _≤_, _<_}
 use mathlib.Core.Path.{_≡_, refl, sym, ap, _∙_, subst}
-use mathlib.Core.Bool.{Bool, true, false, _&&_}
+use mathlib.Core.Bool.{Bool, true, false, cond, _&&_}
 use mathlib.Core.Logic.{_≢_, _⊎_, inl, inr, ⊎-elim}
 use mathlib.Core.List.{List}
-use native.Mathlib.Nat.{eq-or-lt-of-le}
+use native.Mathlib.Nat.{eq-or-lt-of-le, add-zero}
 use native.Mathlib.Omega.{arith}
 use native.Mathlib.Numerals.{add-one}
 use lib.Dec.{eqb, ltb}
@@ -86,6 +87,31 @@ module _ (l : U32List) (e : U32TableEntry) where
         (λ (q : i ≡ j). subst (λ (x : ℕ). sameKey (entryAt l x) e ≡ false) q s)
         (λ (q : i < j). rest q (rw s at b))
         (eq-or-lt-of-le a)
+
+-- ---- two lists with the same entries at the places of a search
+
+pub find-cong : (l m : U32List) (e : U32TableEntry) (i n : ℕ)
+    → ((j : ℕ) → i ≤ j → j < i + n → entryAt l j ≡ entryAt m j) → findFrom l e i n ≡ findFrom m e i n
+unfolding findFrom
+find-cong l m e i zero f = refl
+find-cong l m e i (suc n) f =
+    rw (f i (omega arith) (omega arith), find-cong l m e (suc i) n (λ j a b. f j (omega arith) (omega arith)))
+
+-- ---- one place more: what was found before, or the last place, or past it
+
+pub find-more : (l : U32List) (e : U32TableEntry) (i n : ℕ)
+    → findFrom l e i (suc n) ≡ cond (ltb (findFrom l e i n) (i + n)) (findFrom l e i n) (cond (sameKey (entryAt l (i + n)) e) (i + n) (suc (i + n)))
+unfolding findFrom
+find-more l e i zero = rw (add-zero i, le-ltb i i (omega arith))
+find-more l e i (suc n) = go (find-more l e (suc i) n) (sameKey (entryAt l i) e) where
+  go : findFrom l e (suc i) (suc n)
+      ≡ cond (ltb (findFrom l e (suc i) n) (suc i + n)) (findFrom l e (suc i) n) (cond (sameKey (entryAt l (suc i + n)) e) (suc i + n) (suc (suc i + n)))
+      → (t : Bool)
+      → cond t i (findFrom l e (suc i) (suc n))
+      ≡ cond (ltb (cond t i (findFrom l e (suc i) n)) (i + suc n)) (cond t i (findFrom l e (suc i) n))
+      (cond (sameKey (entryAt l (i + suc n)) e) (i + suc n) (suc (i + suc n)))
+  go rest true = rw (lt-ltb i (i + suc n) (omega arith))
+  go rest false = let next : i + suc n ≡ suc i + n = omega arith in rw next rest
 
 -- ---- eight places with another LHS are passed at once
 

@@ -1,3 +1,5 @@
 pub mod PaddedHeight
 pub mod RecordingCases
 pub mod OneKey
+pub mod RecordEach
+pub mod Stores

@@ -2,8 +2,8 @@
 -- key's position, from 0."
 use Prim.Native.Nat.{ℕ, _+_, _*_}
 use mathlib.Core.Bool.{Bool, cond, not}
-use mathlib.Core.List.{[], _∷_}
-use lib.Dec.{ltb}
+use mathlib.Core.List.{List, [], _∷_}
+use lib.Dec.{eqb, ltb}
 use lib.ListN.{set}
 use lib.Seq.{sets}
 use Rattle.words.specs.Answers.{Answer, done, declined}
@@ -51,6 +51,11 @@ recordedInto l e = cond (known l e) (raised l (findKey l e)) (appended l e)
 -- new-position). A refusal changes nothing lent
 unfoldable pub recordAll : U32List → U32TableEntry → Outcome U32List
 recordAll l e = outcome (recordReason l e) (findKey l (admitted e) ∷ []) l (recordedInto l (admitted e))
+
+-- recordings one after the other; the first that is refused is the last
+unfoldable pub recordEach : U32List → List U32TableEntry → Outcome U32List
+recordEach l [] = record { answer = done []; left = l }
+recordEach l (e ∷ es) = let a = recordAll l e in cond (eqb (a .answer .number) 0) (recordEach (a .left) es) a
 
 -- what the answer of a recording means
 abbrev pub recordedAnswer : Recorded → Answer

@@ -1,18 +1,20 @@
 // The calls of document 01 as C functions on numbers and slices: include/u32_table.h describes them. Each returns document 01's number, 0 for done.
 // Further answers go into `answers`, a lent array of words: with fewer words than the call states it is refused with 1 before anything else is
-// looked at; on every refusal it is untouched, and so are always its words past those stated.
+// looked at; on every other refusal it is untouched, but for u32_table_replay, which says on a refusal too how many steps were done. Its words past
+// those stated are always untouched.
 ghost use mathlib.Core.Path.{_≡_};
 ghost use Rattle.isa.specs.Entries.{entry};
 ghost use Rattle.list_record.specs.Plan.{planAll};
 ghost use Rattle.list_record.specs.Recording.{recordAll};
+ghost use Rattle.list_replay.specs.Replay.{replayAll};
 ghost use Rattle.list_stored.specs.Stored.{readAll, writeAll};
-ghost use Rattle.c_answers.specs.Exports.{lentList, lentDue, Exported};
+ghost use Rattle.c_answers.specs.Exports.{lentList, lentDue, Exported, Reported};
 ghost use Rattle.c_lists.specs.ListAnswers.{withUsed, compareAll};
 ghost use Rattle.fill.specs.Padding.{padAll};
 ghost use Rattle.c_tables.specs.TableAnswers.{FillAnswers, FillLeaves, ExtendAnswers, ExtendLeaves};
 ghost use Rattle.c_tables.specs.TableAnswers.{CheckAnswers, SaysZeroIff, SaysZeroSound, SaysZeroSums};
 
-// The number of these signatures. It is raised whenever one of them changes: here, in the name below, in include/u32_table.h and in the Rust
+// The number of these signatures. It is raised whenever one of them changes, and not where a function is added: here, in the name below, in include/u32_table.h and in the Rust
 // crate. Both name the symbol, so a program does not link with a library of other signatures.
 const ABI: u64 = 1;
 
@@ -49,6 +51,23 @@ pub extern "C" fn u32_table_record(
         right_operand,
         answers,
     )
+}
+
+// Answers, on a refusal too: the steps done, and the places used afterwards.
+#[no_mangle]
+pub extern "C" fn u32_table_replay(
+    capacity: usize,
+    used: usize,
+    keys: &mut [u64],
+    multiplicities: &mut [u64],
+    trace: &[u64],
+    answers: &mut [u64],
+) -> u64
+    ensures answers { λ r. ⌜ Reported 2 (withUsed (replayAll (lentList capacity used (now (keys .entry)) (now (multiplicities .entry))) (now (trace .entry)))) (now (answers .entry)) r (now (answers .exit)) ⌝ }
+    ensures keys { λ _. ⌜ now (keys .exit) ≡ lentDue 2 (now (answers .entry)) (now (keys .entry)) (replayAll (lentList capacity used (now (keys .entry)) (now (multiplicities .entry))) (now (trace .entry)) .left .keys) ⌝ }
+    ensures multiplicities { λ _. ⌜ now (multiplicities .exit) ≡ lentDue 2 (now (answers .entry)) (now (multiplicities .entry)) (replayAll (lentList capacity used (now (keys .entry)) (now (multiplicities .entry))) (now (trace .entry)) .left .multiplicities) ⌝ }
+{
+    c_lists::replay(capacity, used, keys, multiplicities, trace, answers)
 }
 
 // Answers: 0 where the first entry is less, 1 where the two are equal, 2 where it is greater.

@@ -9,7 +9,7 @@ maxPlaces = 2048
 abbrev pub maxRows : ℕ
 maxRows = 131072
 
--- "The limit becomes p − 1": no multiplicity is above it. This crate does not know p; list/proofs/JudgedLists.antt: limit-is
+-- "The limit becomes p − 1": no multiplicity is above it. This crate does not know p; lists/proofs/JudgedLists.antt: limit-is
 abbrev pub multiplicityLimit : ℕ
 multiplicityLimit = 18446744069414584320
 

@@ -3,11 +3,11 @@ use Prim.Native.Nat.{ℕ, zero, suc}
 use mathlib.Core.Bool.{Bool, true, false}
 use Rattle.words.specs.declared.Refusal.{Refusal}
 use Rattle.words.specs.declared.Refusal.the-variants.{Shape, Stranger, Wide, BareLog, CountFull, ListFull}
-use Rattle.words.specs.declared.Refusal.the-variants.{Short, Unreduced, Flat, Torn, Repeat, Tally}
+use Rattle.words.specs.declared.Refusal.the-variants.{Short, Unreduced, Flat, Torn, Repeat, Tally, ZeroDivisor}
 use Rattle.words.specs.declared.Judgement.{Judgement}
 use Rattle.words.specs.declared.Judgement.the-variants.{Fine, Declined}
 
--- the column "No."
+-- the column "No."; 13 is request 1's: "div_mod with d = 0"
 abbrev pub refusalNumber : Refusal → ℕ
 refusalNumber Shape = 1
 refusalNumber Stranger = 2
@@ -21,6 +21,7 @@ refusalNumber Flat = 9
 refusalNumber Torn = 10
 refusalNumber Repeat = 11
 refusalNumber Tally = 12
+refusalNumber ZeroDivisor = 13
 
 -- declined for this reason where the test is true
 abbrev pub declineIf : Bool → Refusal → Judgement

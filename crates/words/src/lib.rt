@@ -18,7 +18,7 @@ pub const MIN_PADDED_HEIGHT: u64 = 256;
 // No multiplicity is above this: p − 1.
 pub const MULTIPLICITY_LIMIT: u64 = 18446744069414584320;
 
-// Document 01's "Reasons to decline", in its order.
+// Document 01's "Reasons to decline", in its order; then those of the requests.
 pub enum Refusal {
     Shape,
     Stranger,
@@ -32,10 +32,11 @@ pub enum Refusal {
     Torn,
     Repeat,
     Tally,
+    ZeroDivisor,
 }
 
 impl Refusal {
-    // The reason's number in document 01.
+    // The reason's number in the documents.
     pub fn number(self) -> u64
         ensures { λ r. ⌜ r ≡ refusalNumber self ⌝ }
     {
@@ -52,6 +53,7 @@ impl Refusal {
             Refusal::Torn => 10,
             Refusal::Repeat => 11,
             Refusal::Tally => 12,
+            Refusal::ZeroDivisor => 13,
         }
     }
 }

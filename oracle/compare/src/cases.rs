@@ -27,6 +27,8 @@ const FLAT: u64 = 9;
 const TORN: u64 = 10;
 const REPEAT: u64 = 11;
 const TALLY: u64 = 12;
+/// Request 1's.
+const ZERO_DIVISOR: u64 = 13;
 
 /// Rows of the table in docs/DIFFERENCES.md, by their first cell. A refusal, or a panic of the original, that is none of them is a
 /// difference.
@@ -70,6 +72,10 @@ pub struct Counts {
     pub heights: u64,
     pub recordings: u64,
     pub orders: u64,
+    /// Replays, and the steps of theirs that were done.
+    pub replays: [u64; 2],
+    /// div_mod steps that stop at 6 where lt alone had a place, at 5 of lt where split had no place, and at 13.
+    pub stops: [u64; 3],
     pub round_trips: u64,
     pub elements: u64,
     /// By document 01's number.
@@ -99,6 +105,12 @@ pub enum Case {
         list: Vec<Entry>,
         capacity: usize,
         keys: Vec<Key>,
+    },
+    /// A trace replayed onto a list without repeats.
+    Replay {
+        list: Vec<Entry>,
+        capacity: usize,
+        trace: Vec<Key>,
     },
     Order {
         left: Key,
@@ -189,6 +201,34 @@ fn count_reason(entry: &Entry) -> Option<u64> {
     (entry.multiplicity > MOST_COUNT).then_some(COUNT_FULL)
 }
 
+/// Request 1: the entries that a step records, or why it has none.
+pub fn step_entries([opcode, first, second]: Key) -> Result<Vec<Key>, u64> {
+    let below = |fine: bool, key: Key| if fine { Ok(vec![key]) } else { Err(WIDE) };
+    match opcode {
+        4 => below(first < P, [4, first & MOST, first >> 32]),
+        6 | 14 | 30 => Ok(vec![[opcode, first, second]]),
+        12 | 28 => Ok(vec![[opcode, first, 0]]),
+        22 => Ok(vec![[14, first, second]]),
+        20 if first > MOST || second > MOST => Err(WIDE),
+        20 if second == 0 => Err(ZERO_DIVISOR),
+        20 => Ok(vec![[6, first % second, second], [4, first, first / second]]),
+        36 | 44 => below(first <= MOST, [4, first, first / 2]),
+        _ => Err(STRANGER),
+    }
+}
+
+/// The list after the original recorded a key, or the first of the reasons 2 to 6 against that.
+fn recorded(entries: &[Entry], capacity: usize, key: Key) -> Result<Vec<Entry>, u64> {
+    key_reason(key).map_or(Ok(()), Err)?;
+    let after = record(entries, &[key]);
+    let changed = (0..after.len()).find(|&i| entries.get(i) != after.get(i));
+    match changed.and_then(|i| entries.get(i)) {
+        Some(known) if known.multiplicity >= MOST_COUNT => Err(COUNT_FULL),
+        None if after.len() > capacity => Err(LIST_FULL),
+        _ => Ok(after),
+    }
+}
+
 fn has_repeats(list: &[Entry]) -> bool {
     let mut seen = HashSet::new();
     !list.iter().all(|entry| seen.insert(admitted(entry.key)))
@@ -238,6 +278,7 @@ impl Comparison {
             Case::List { list, spare, extra, challenges } => self.list(list, *spare, *extra, challenges),
             Case::Table { rows, aux, challenges, filled } => self.table(rows, aux, challenges, *filled),
             Case::Record { list, capacity, keys } => self.record(list, *capacity, keys),
+            Case::Replay { list, capacity, trace } => self.replay(list, *capacity, trace),
             Case::Order { left, right } => self.order(*left, *right),
             Case::Elements { words } => self.elements(words),
             Case::Shapes => self.shapes(),
@@ -766,6 +807,40 @@ impl Comparison {
         Ok(())
     }
 
+    /// The original records the entries of the steps one after the other, up to the first step that is refused.
+    fn replay(&mut self, list: &[Entry], capacity: usize, trace: &[Key]) -> Same {
+        let mut ours = arrays(list, capacity);
+        let answer = port::replay(&mut ours, trace.as_flattened());
+        let (mut entries, mut done, mut number) = (list.to_vec(), 0, 0);
+        for &step in trace {
+            let made = step_entries(step).and_then(|keys| {
+                let made = keys.iter().try_fold(entries.clone(), |entries, &key| recorded(&entries, capacity, key));
+                if keys.len() == 2 && made.is_err() {
+                    let [first, second] = [keys[0], keys[1]].map(|key| recorded(&entries, capacity, key).err());
+                    self.counts.stops[0] += ((made.as_ref().err(), first) == (Some(&LIST_FULL), None)) as u64;
+                    self.counts.stops[1] += ([first, second] == [Some(COUNT_FULL), Some(LIST_FULL)]) as u64;
+                }
+                made
+            });
+            match made {
+                Ok(after) => (entries, done) = (after, done + 1),
+                Err(reason) => {
+                    number = reason;
+                    self.counts.stops[2] += (reason == ZERO_DIVISOR) as u64;
+                    *self.counts.refusals.entry(reason).or_default() += 1;
+                    break;
+                }
+            }
+        }
+        self.counts.replays[0] += 1;
+        self.counts.replays[1] += done;
+        let expected = (number, [done, entries.len() as u64]);
+        agree("replay", answer, expected, answer == expected)?;
+        let expected = arrays(&entries, capacity);
+        self.same("replay: keys", &ours.keys, &expected.keys)?;
+        self.same("replay: multiplicities", &ours.multiplicities, &expected.multiplicities)
+    }
+
     fn order(&mut self, left: Key, right: Key) -> Same {
         self.counts.orders += 1;
         let ours = port::compare(left, right);
@@ -954,6 +1029,19 @@ impl Case {
                 ways.extend(capacities.map(|capacity| case(list, capacity as usize, keys)));
                 ways
             }
+            Case::Replay { list, capacity, trace } => {
+                let case = |list: &[Entry], capacity, trace: &[Key]| Case::Replay {
+                    list: list.to_vec(),
+                    capacity,
+                    trace: trace.to_vec(),
+                };
+                let mut ways: Vec<Case> = smaller_keys(trace).iter().map(|trace| case(list, *capacity, trace)).collect();
+                let lists = smaller_lists(list).into_iter().filter(|list| !has_repeats(list));
+                ways.extend(lists.map(|list| case(&list, *capacity, trace)));
+                let capacities = smaller_words(*capacity as u64).into_iter().filter(|&capacity| capacity >= list.len() as u64);
+                ways.extend(capacities.map(|capacity| case(list, capacity as usize, trace)));
+                ways
+            }
             Case::Order { left, right } => {
                 let words = [&left[..], &right[..]].concat();
                 let case =
@@ -994,6 +1082,11 @@ impl std::fmt::Display for Case {
                 writeln!(f, "recordings onto a list of {}, capacity {capacity}", list.len())?;
                 entries(f, list)?;
                 keys.iter().try_for_each(|key| writeln!(f, "  record {}", words(key)))
+            }
+            Case::Replay { list, capacity, trace } => {
+                writeln!(f, "a replay onto a list of {}, capacity {capacity}", list.len())?;
+                entries(f, list)?;
+                trace.iter().try_for_each(|step| writeln!(f, "  step {}", words(step)))
             }
             Case::Order { left, right } => writeln!(f, "order of {} and {}", words(left), words(right)),
             Case::Elements { words: all } => writeln!(f, "elements {}", words(all)),

@@ -85,6 +85,10 @@ fn compare(seed: u64, size: Size) -> ExitCode {
             println!("NOT COMPARED (seed {seed}): bases of pow of p or more, {:?}", counts.raw);
             ExitCode::FAILURE
         }
+        None if counts.stops.contains(&0) => {
+            println!("NOT COMPARED (seed {seed}): steps of div_mod that stop, {:?}", counts.stops);
+            ExitCode::FAILURE
+        }
         None => {
             println!("seed {seed} seconds {seconds} differences 0");
             ExitCode::SUCCESS
@@ -106,6 +110,10 @@ fn print_counts(counts: &Counts) {
     println!(
         "rows against heights, of changed and foreign tables that pass {} as many rows as the heights {}",
         counts.passing[0], counts.passing[1]
+    );
+    println!(
+        "replays {} steps done {}; div_mod stopped at split's 6 {} at lt's 5 with split's 6 {} at 13 {}",
+        counts.replays[0], counts.replays[1], counts.stops[0], counts.stops[1], counts.stops[2]
     );
     println!("multiplicities past 32 bits, entries {} recordings {}", counts.large[0], counts.large[1]);
     println!("bases of pow of p or more, entries {} held {} recordings {}", counts.raw[0], counts.raw[1], counts.raw[2]);
@@ -273,6 +281,7 @@ impl Run {
             foreign_table(random),
             random_table(random),
             recordings(random),
+            replays(random),
             order(random),
             order(random),
             Case::Elements { words: (0..12).map(|_| any_word(random)).collect() },
@@ -452,6 +461,40 @@ fn recordings(random: &mut Random) -> Case {
     };
     let keys = (0..random.below(16)).map(|_| raw(random)).collect();
     Case::Record { list, capacity, keys }
+}
+
+/// Steps of the ten opcodes with few values, so that keys are met again, onto a list with at most eight unused places, some of whose keys a step of the
+/// trace records and whose multiplicities are often at the limit; now and then another opcode or any words.
+fn replays(random: &mut Random) -> Case {
+    let few: Vec<u64> = (0..2).map(|_| random.operand()).chain([0, 1, 2, 3, 4]).collect();
+    let mut value = |random: &mut Random| match random.below(32) {
+        0 => random.one_of(&[1 << 32, (1 << 32) + 1, P - 1, P, P + 1, u64::MAX]),
+        1 => any_word(random),
+        _ => random.one_of(&few),
+    };
+    let mut step = |random: &mut Random| {
+        let opcode = match random.below(24) {
+            0 => random.one_of(&[0, 5, 8, 21, 23, 40, 256 + 4, (1 << 32) + 20, P + 4, u64::MAX]),
+            1..8 => 20,
+            _ => random.one_of(&[4, 6, 12, 14, 28, 30, 20, 22, 36, 44]),
+        };
+        let first = if opcode == 4 && random.below(2) == 0 { random.below(P) } else { value(random) };
+        [opcode, first, value(random)]
+    };
+    let trace: Vec<Key> = (0..random.below(7)).map(|_| step(random)).collect();
+    let mut list: Vec<Entry> = vec![];
+    for step in &trace {
+        for key in step_entries(*step).unwrap_or_default() {
+            let is_new =
+                list.iter().all(|entry| entry.key != key) && OPCODES.contains(&key[0]) && key[1] < 1 << 32 && key[2] < 1 << 32;
+            if is_new && (key[0], key[1]) != (12, 0) && random.below(4) == 0 {
+                let multiplicity = random.one_of(&[0, 1, 1 << 32, P - 2, P - 1, P - 1, P, u64::MAX]);
+                list.push(Entry { key, multiplicity });
+            }
+        }
+    }
+    let capacity = list.len() + random.one_of(&[0, 0, 1, 1, 2, 3, 5, 8]);
+    Case::Replay { list, capacity, trace }
 }
 
 fn order(random: &mut Random) -> Case {

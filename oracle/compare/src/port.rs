@@ -1,7 +1,7 @@
 //! The port's library: the C functions of crates/u32_table and crates/probes, on slices.
 //!
 //! Every array that is lent is a copy between guard words. After the call the guards must stand; an array that the call only reads must
-//! be as it was; answers must be untouched on a refusal, and so must the words past the stated ones. Otherwise these functions panic with
+//! be as it was; answers must be untouched on a refusal (but of a replay), and so must the words past the stated ones. Otherwise these functions panic with
 //! the call's name: a difference.
 use std::cell::Cell;
 
@@ -15,11 +15,15 @@ pub type Answer<const N: usize> = Result<[u64; N], u64>;
 
 /// What a call hands back: its number, or one of its arrays. With a fault set, one word of it is changed after every twentieth such call,
 /// as a wrong library would: the comparison must find it.
-pub const FAULTS: [&str; 31] = [
+pub const FAULTS: [&str; 35] = [
     "record number",
     "record keys",
     "record multiplicities",
     "record answers",
+    "replay number",
+    "replay keys",
+    "replay multiplicities",
+    "replay answers",
     "compare number",
     "compare answers",
     "plan number",
@@ -192,6 +196,35 @@ pub fn record(list: &mut List, [opcode, lhs, rhs]: [u64; 3]) -> Answer<2> {
     keys.back(&mut list.keys);
     multiplicities.back(&mut list.multiplicities);
     answered(number, answers, |_| 2)
+}
+
+/// The number; and on a refusal too the steps done, and used.
+pub fn replay(list: &mut List, trace: &[u64]) -> (u64, [u64; 2]) {
+    let call = "replay";
+    let mut keys = Lent::new(call, "keys", &list.keys);
+    let mut multiplicities = Lent::new(call, "multiplicities", &list.multiplicities);
+    let mut steps = Lent::new(call, "trace", trace);
+    let mut answers = answers(call, 2);
+    let number = unsafe {
+        c::u32_table_replay(
+            list.capacity,
+            list.used,
+            keys.pointer(),
+            keys.len(),
+            multiplicities.pointer(),
+            multiplicities.len(),
+            steps.pointer(),
+            steps.len(),
+            answers.pointer(),
+            answers.len(),
+        )
+    };
+    keys.back(&mut list.keys);
+    multiplicities.back(&mut list.multiplicities);
+    steps.unchanged(trace);
+    let words = answers.content();
+    assert!(words[2..] == [OLD; 2], "the port: replay wrote to answers past the second");
+    (if is_faulty(call, "number") { number ^ 1 } else { number }, [words[0], words[1]])
 }
 
 /// 0 less, 1 equal, 2 greater.

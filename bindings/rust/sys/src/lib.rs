@@ -9,7 +9,7 @@
 #[macro_use]
 mod symbol;
 
-/// Hands the nine declarations to the macro that is named.
+/// Hands the ten declarations to the macro that is named.
 #[macro_export]
 macro_rules! functions {
     ($to:ident) => {
@@ -24,6 +24,18 @@ macro_rules! functions {
                 opcode: u64,
                 left_operand: u64,
                 right_operand: u64,
+                answers: *mut u64,
+                answer_words: usize,
+            );
+            fn u32_table_replay(
+                capacity: usize,
+                used: usize,
+                keys: *mut u64,
+                key_words: usize,
+                multiplicities: *mut u64,
+                places: usize,
+                trace: *const u64,
+                trace_words: usize,
                 answers: *mut u64,
                 answer_words: usize,
             );

@@ -1,0 +1,3 @@
+pub mod BothPlaces
+pub mod Walks
+pub mod Replays
