@@ -467,12 +467,12 @@ fn recordings(random: &mut Random) -> Case {
 /// trace records and whose multiplicities are often at the limit; now and then another opcode or any words.
 fn replays(random: &mut Random) -> Case {
     let few: Vec<u64> = (0..2).map(|_| random.operand()).chain([0, 1, 2, 3, 4]).collect();
-    let mut value = |random: &mut Random| match random.below(32) {
+    let value = |random: &mut Random| match random.below(32) {
         0 => random.one_of(&[1 << 32, (1 << 32) + 1, P - 1, P, P + 1, u64::MAX]),
         1 => any_word(random),
         _ => random.one_of(&few),
     };
-    let mut step = |random: &mut Random| {
+    let step = |random: &mut Random| {
         let opcode = match random.below(24) {
             0 => random.one_of(&[0, 5, 8, 21, 23, 40, 256 + 4, (1 << 32) + 20, P + 4, u64::MAX]),
             1..8 => 20,
