@@ -1,4 +1,4 @@
-/* The U32 table of Triton VM, proved: record, replay, compare, plan, read, write, fill, pad, extend, check.
+/* The U32 table of Triton VM, proved: record, replay, compare, plan, read, write, fill, pad, extend, check, client_sum.
  *
  * The functions stand in crates/u32_table. `rt staticlib u32_table` proves them and writes target/staticlib/libu32_table.a for x86-64 Linux:
  *
@@ -59,7 +59,7 @@ enum {
     U32_TABLE_LIST_FULL = 6,  /* a new key and no unused place; in reading, more entries than places */
     U32_TABLE_SHORT = 7,      /* too few rows or too few output bytes; a filled count above the rows; a check of no rows */
     U32_TABLE_UNREDUCED = 8,  /* a word that is U32_TABLE_P or more */
-    U32_TABLE_FLAT = 9,       /* a row with CopyFlag 1 whose denominator is (0, 0, 0); see u32_table_extend */
+    U32_TABLE_FLAT = 9,       /* a denominator of (0, 0, 0), of a row with CopyFlag 1 or of a request; see u32_table_extend */
     U32_TABLE_TORN = 10,      /* stored bytes of neither of the two lengths, or more than 2,048 entries in them */
     U32_TABLE_REPEAT = 11,    /* equal keys in stored bytes, or in a list to be written */
     U32_TABLE_TALLY = 12,     /* the stored height is not the sum of the entries' heights */
@@ -123,7 +123,8 @@ enum {
     U32_TABLE_WRITE_ANSWERS = 1,
     U32_TABLE_FILL_ANSWERS = 1,
     U32_TABLE_EXTEND_ANSWERS = 3,
-    U32_TABLE_CHECK_ANSWERS = 7
+    U32_TABLE_CHECK_ANSWERS = 7,
+    U32_TABLE_CLIENT_ANSWERS = 3
 };
 
 /* A list is `capacity` places, of which the first `used` hold an entry each: three key words a place and one multiplicity a place. So
@@ -231,6 +232,25 @@ uint64_t u32_table_extend(const uint64_t *table, size_t table_words, uint64_t *a
  * Refusals, in this order: SHAPE (as for u32_table_extend); SHORT (no rows); UNREDUCED (table, challenges or aux). */
 uint64_t u32_table_check(const uint64_t *table, size_t table_words, const uint64_t *aux, size_t aux_words, const uint64_t *challenges,
                          size_t challenge_words, uint64_t *answers, size_t answer_words);
+
+/* The client's sum, the processor's end of the lookup: from (0, 0, 0), each request adds the inverse of its denominator. Requests are entries, three
+ * words each (opcode, left operand, right operand), as many as there are; the left operand of pow is taken modulo U32_TABLE_P. The denominator is that of
+ * u32_table_extend, of the row with the request's operands, its opcode as CI and the plain function as Result:
+ *
+ *     lt                      1 if the left operand is less than the right one, else 0
+ *     and                     the bitwise and
+ *     log_2_floor             the logarithm to base 2 of the left operand, rounded down
+ *     pow                     the left operand to the power of the right one, modulo U32_TABLE_P, with 0^0 = 1
+ *     pop_count               the one-bits of the left operand
+ *     split                   0
+ *
+ * Where all requests are recorded onto a list with no entries, none is refused and no denominator is (0, 0, 0), this is the last sum that u32_table_fill,
+ * u32_table_pad and u32_table_extend then make under the same challenges, with rows enough; and none of them refuses.
+ * Answers: the three words of the sum, zero for no requests.
+ * Refusals, in this order: SHAPE (request_words is not whole requests, or challenge_words is not 15); UNREDUCED (challenges); then request by request
+ * STRANGER, WIDE, BARE_LOG, FLAT. */
+uint64_t u32_table_client_sum(const uint64_t *requests, size_t request_words, const uint64_t *challenges, size_t challenge_words,
+                              uint64_t *answers, size_t answer_words);
 
 #ifdef __cplusplus
 }

@@ -22,8 +22,8 @@ KINDS = {
 }
 KIND = {
     "field": "call", "xfield": "call", "isa": "call", "list_record": "call", "list_replay": "call", "list_stored": "call", "check_table": "call", "fill": "call",
-    "extend": "call", "transcript": "call", "sums": "theory", "air": "theory", "row_bound": "theory", "four_calls": "theory",
-    "list_round_trips": "theory", "u32list_example": "theory", "u32list": "program", "u32check": "program", "u32_table": "program",
+    "extend": "call", "client_sum": "call", "transcript": "call", "sums": "theory", "air": "theory", "row_bound": "theory", "four_calls": "theory",
+    "client_law": "theory", "list_round_trips": "theory", "u32list_example": "theory", "u32list": "program", "u32check": "program", "u32_table": "program",
 }  # fmt: skip
 
 # A room: its name, and its crates with the column of each. Rooms share a column only where one stands above the other.
@@ -35,7 +35,8 @@ ROOMS = {
     "check": {"air": 3, "check_rows": 3, "check_plain": 4, "check_pairs": 3, "check_search": 3, "check_table": 3},
     "filling": {"fill_results": 5, "fill_sections": 5, "fill": 5, "extend": 5},
     "the four calls": {"row_bound": 5, "four_calls": 5},
-    "programs": {"text": 6, "transcript": 6, "numbers": 7, "names": 8, "streams": 9, "u32list_example": 6, "u32list": 9, "table_text": 7, "u32check": 8},
+    "the other side": {"client_sum": 6, "client_law": 6},
+    "programs": {"text": 7, "transcript": 7, "numbers": 8, "names": 9, "streams": 10, "u32list_example": 7, "u32list": 10, "table_text": 8, "u32check": 9},
     "C functions": {"c_answers": 1, "c_lists": 1, "c_tables": 2, "u32_table": 1},
 }  # fmt: skip
 
@@ -81,7 +82,7 @@ def drawn_levels(deps):
         users = [level[n] for n, ds in deps.items() if name in ds]
         same = [level[n] for n, ds in deps.items() if name in ds and room[n] == room[name]]
         if same:
-            level[name] = min(same) - 1
+            level[name] = min(users) - 1
         elif users and not [d for d in deps[name] if room[d] == room[name]] and len(ROOMS[room[name]]) > 1:
             level[name] = max(level[name], min(users) - 1)
     return level

@@ -215,3 +215,38 @@ pub fn ext_inverse(x: X) -> X {
     let norm = a * e - (b * g + c * f);
     X::new([e, f, g]) * norm.inverse()
 }
+
+/// The plain function of an instruction; 0 for split.
+#[inline]
+fn plain_result([opcode, lhs, rhs]: [u64; 3]) -> B {
+    b(match opcode {
+        6 => (lhs < rhs) as u64,
+        14 => lhs & rhs,
+        12 => lhs.ilog2().into(),
+        28 => lhs.count_ones().into(),
+        30 => {
+            let (mut power, mut square, mut rest) = (b(1), b(lhs), rhs);
+            while rest != 0 {
+                if rest % 2 == 1 {
+                    power = power * square;
+                }
+                square = square * square;
+                rest /= 2;
+            }
+            return power;
+        }
+        _ => 0,
+    })
+}
+
+/// The client's sum over requests that are admitted, with no denominator that is zero: it judges nothing.
+pub fn client_sum(requests: &[[u64; 3]], weights: &Weights) -> X {
+    let inverse = |&[opcode, lhs, rhs]: &[u64; 3]| {
+        let row = weights.lhs * b(lhs)
+            + weights.rhs * b(rhs)
+            + weights.ci * b(opcode)
+            + weights.result * plain_result([opcode, lhs, rhs]);
+        ext_inverse(weights.indeterminate - row)
+    };
+    requests.iter().map(inverse).fold(X::new([b(0); 3]), |sum, inverse| sum + inverse)
+}

@@ -368,6 +368,7 @@ impl Inputs {
         let one_lhs: Vec<_> = (0..n as u64).map(|rhs| [30, 2, rhs]).collect();
         self.record("record, as many keys with one LHS, a hash map", &one_lhs, runs);
         self.replay(runs);
+        self.client(runs);
     }
 
     /// The time of our check of a table that passes or not.
@@ -468,6 +469,27 @@ impl Inputs {
         line("replay, a million steps, against its recordings one by one", replay, record, None);
         line("replay, a million steps, a hash map", replay, theirs, None);
         println!("replay, {} recordings: {:.0} ns a step", entries.len(), replay * 1e9 / STEPS as f64);
+    }
+
+    /// The client's sum over 131,072 requests of mixed opcodes.
+    fn client(&self, runs: usize) {
+        let requests: Vec<[u64; 3]> = self.keys.iter().cycle().take(131_072).copied().collect();
+        let weights = by_hand::Weights::new(&self.challenges);
+        let hand = by_hand::client_sum(&requests, &weights).coefficients.map(|c| c.value());
+        assert!(hand == port::client_sum(requests.as_flattened(), &self.challenges), "the client's sums differ");
+        let [ours, theirs] = best(
+            runs,
+            [
+                &mut || {
+                    black_box(port::client_sum(black_box(requests.as_flattened()), &self.challenges));
+                },
+                &mut || {
+                    black_box(by_hand::client_sum(black_box(&requests), &weights));
+                },
+            ],
+        );
+        line("client_sum, 131,072 requests, Rust by hand that judges nothing", ours, theirs, None);
+        println!("client_sum: {:.0} ns a request", ours * 1e9 / requests.len() as f64);
     }
 
     // -------------------------------------------------------------------------------------------------------------------- growth

@@ -122,7 +122,6 @@ fn done(number: u64) {
     assert_eq!(0, number, "refused");
 }
 
-/// Height and padded height.
 /// The steps done and the places used afterwards.
 pub fn replay(list: &mut List, used: usize, trace: &[u64]) -> [usize; 2] {
     let (mut answers, capacity) = ([0; 2], list.capacity());
@@ -143,6 +142,16 @@ pub fn replay(list: &mut List, used: usize, trace: &[u64]) -> [usize; 2] {
     answers.map(|word| word as usize)
 }
 
+/// The three words of the client's sum.
+pub fn client_sum(requests: &[u64], challenges: &[u64]) -> [u64; 3] {
+    let mut answers = [0; 3];
+    done(unsafe {
+        c::u32_table_client_sum(requests.as_ptr(), requests.len(), challenges.as_ptr(), challenges.len(), answers.as_mut_ptr(), 3)
+    });
+    answers
+}
+
+/// Height and padded height.
 pub fn plan(list: &List) -> [usize; 2] {
     let (mut answers, capacity) = ([0; 2], list.capacity());
     let (keys, multiplicities) = (list.keys.as_ptr(), list.multiplicities.as_ptr());

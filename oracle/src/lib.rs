@@ -9,6 +9,7 @@ use std::panic::{AssertUnwindSafe, catch_unwind};
 
 use air::AIR;
 use air::challenge_id::ChallengeId;
+use air::cross_table_argument::{CrossTableArg, LookupArg};
 use air::table::u32::U32Table;
 use air::table::{AUX_U32_TABLE_START, NUM_AUX_COLUMNS, NUM_MAIN_COLUMNS, U32_TABLE_START};
 use constraint_circuit::*;
@@ -170,6 +171,31 @@ pub fn extend(rows: &[Row], challenges: &Challenges) -> Vec<Ext> {
     let mut aux = Array2::<XFieldElement>::zeros([rows.len(), 1]);
     U32Table::extend(array_of(rows).view(), aux.view_mut(), &original_challenges(challenges));
     (0..rows.len()).map(|i| ext_words(aux[[i, 0]])).collect()
+}
+
+/// The weighted sum of a row's LHS, RHS, CI and Result.
+pub fn compressed_row(row: &Row, challenges: &Challenges) -> Ext {
+    let weighted = |weight: usize, column: usize| ext(challenges.as_chunks().0[weight]) * BFieldElement::new(row[column]);
+    ext_words(weighted(1, 4) + weighted(2, 6) + weighted(3, 3) + weighted(4, 8))
+}
+
+/// The client's sum over these rows, one a request: the fold of `LookupArg::compute_terminal` over compressed rows, which are extension elements, in
+/// place of lifted symbols. It panics where a denominator has no inverse, as that one does.
+pub fn client_sum(rows: &[Row], challenges: &Challenges) -> Ext {
+    let indeterminate = ext(challenges.as_chunks().0[0]);
+    let inverses = rows.iter().map(|row| (indeterminate - ext(compressed_row(row, challenges))).inverse());
+    ext_words(inverses.fold(LookupArg::default_initial(), |sum, inverse| sum + inverse))
+}
+
+/// `LookupArg::compute_terminal` over the compressed rows; None, where one of these is no base element.
+pub fn compute_terminal(rows: &[Row], challenges: &Challenges) -> Option<Ext> {
+    let symbol = |row: &Row| match compressed_row(row, challenges) {
+        [word, 0, 0] => Some(BFieldElement::new(word)),
+        _ => None,
+    };
+    let symbols: Vec<BFieldElement> = rows.iter().map(symbol).collect::<Option<_>>()?;
+    let indeterminate = ext(challenges.as_chunks().0[0]);
+    Some(ext_words(LookupArg::compute_terminal(&symbols, LookupArg::default_initial(), indeterminate)))
 }
 
 fn ext(words: Ext) -> XFieldElement {

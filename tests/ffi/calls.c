@@ -83,6 +83,10 @@ static uint64_t fill(size_t used, size_t rows) {
 static uint64_t extend(size_t rows) { return u32_table_extend(table, 10 * rows, aux, 3 * rows, challenges, 15, answers, WORDS); }
 static uint64_t check(size_t rows) { return u32_table_check(table, 10 * rows, aux, 3 * rows, challenges, 15, answers, WORDS); }
 
+static uint64_t client(const uint64_t *requests, size_t words, const uint64_t *weights) {
+    return u32_table_client_sum(requests, words, weights, 15, answers, WORDS);
+}
+
 static void put(int place, uint64_t opcode, uint64_t lhs, uint64_t rhs, uint64_t multiplicity) {
     keys[3 * place] = opcode, keys[3 * place + 1] = lhs, keys[3 * place + 2] = rhs, multiplicities[place] = multiplicity;
 }
@@ -307,8 +311,47 @@ static void tables(void) {
     printf("lt 2, 3 with Result 0: nonzero, group %" PRIu64 " row %" PRIu64 " index %" PRIu64 "\n", answers[1], answers[2], answers[3]);
 }
 
+/* the client's sum: known values, refusals request by request, and that it is the last sum of the table that is filled with the recordings */
+static void sums(void) {
+    const uint64_t pow2_32 = UINT64_C(1) << 32;
+    const uint64_t zeros[15] = {0}, one[15] = {1}, w[15] = {7, 0, 0, 1, 0, 0, 2, 0, 0, 3, 0, 0, 5}, f[15] = {52, 0, 0, 1, 0, 0, 2, 0, 0, 3, 0, 0, 5};
+    const uint64_t five[15] = {5, 0, 0, 1}, two[15] = {2, 0, 0, 1};
+    uint64_t high[15] = {0};
+    high[14] = U32_TABLE_P;
+    DONE(client(NULL, 0, zeros), 3, 0, 0, 0);
+    DONE(client((uint64_t[]){14, 3, 1, 14, 3, 1}, 6, one), 3, 2, 0, 0);
+    DONE(client((uint64_t[]){14, 3, 1}, 3, w), 3, UINT64_C(6558842335791852203), 0, 0);
+    DONE(client((uint64_t[]){4, 7, 5}, 3, w), 3, UINT64_C(14254302235456724248), 0, 0);
+    DONE(client((uint64_t[]){30, 0, 0}, 3, w), 3, UINT64_C(3563575558864181062), 0, 0);
+    DONE(client((uint64_t[]){30, U32_TABLE_P, 0}, 3, w), 3, UINT64_C(3563575558864181062), 0, 0);
+    DONE(client((uint64_t[]){30, U32_TABLE_P + 2, 3}, 3, five), 3, UINT64_C(12297829379609722881), 0, 0);
+    REFUSED(client((uint64_t[]){30, U32_TABLE_P + 2, 3}, 3, two), U32_TABLE_FLAT);
+    REFUSED(u32_table_client_sum((uint64_t[]){5, 0, 0}, 3, high, 14, answers, WORDS), U32_TABLE_SHAPE);
+    REFUSED(u32_table_client_sum((uint64_t[]){5, 0, 0}, 3, high, 15, answers, 2), U32_TABLE_SHAPE);
+    REFUSED(client((uint64_t[]){5, 0}, 2, high), U32_TABLE_SHAPE);
+    REFUSED(client((uint64_t[]){5, 0, 0}, 3, high), U32_TABLE_UNREDUCED);
+    REFUSED(client(NULL, 0, high), U32_TABLE_UNREDUCED);
+    REFUSED(client((uint64_t[]){5, pow2_32, 0}, 3, zeros), U32_TABLE_STRANGER);
+    REFUSED(client((uint64_t[]){14, U32_TABLE_P, 0}, 3, zeros), U32_TABLE_WIDE);
+    REFUSED(client((uint64_t[]){12, 0, pow2_32}, 3, zeros), U32_TABLE_WIDE);
+    REFUSED(client((uint64_t[]){12, 0, 0}, 3, zeros), U32_TABLE_BARE_LOG);
+    REFUSED(client((uint64_t[]){14, 3, 1, 5, 0, 0}, 6, f), U32_TABLE_FLAT);
+    REFUSED(client((uint64_t[]){5, 0, 0, 14, 3, 1}, 6, f), U32_TABLE_STRANGER);
+
+    /* and 3, 1 twice and lt 2, 3 once */
+    const uint64_t requests[] = {14, 3, 1, 6, 2, 3, 14, 3, 1};
+    put(0, 14, 3, 1, 2), put(1, 6, 2, 3, 1);
+    expect("fill", fill(2, 8), 0);
+    expect("pad", u32_table_pad(table, 80, 6), 0);
+    expect("extend", extend(8), 0);
+    const uint64_t last[3] = {answers[0], answers[1], answers[2]};
+    DONE(client(requests, 9, challenges), 3, last[0], last[1], last[2]);
+}
+
 /* a pointer to no elements may be NULL */
 static void no_arrays(void) {
+    REFUSED(u32_table_client_sum(NULL, 0, NULL, 0, answers, WORDS), U32_TABLE_SHAPE);
+    REFUSED(u32_table_client_sum(NULL, 0, NULL, 0, NULL, 0), U32_TABLE_SHAPE);
     DONE(u32_table_plan(0, 0, NULL, 0, NULL, 0, answers, WORDS), 2, 0, 256);
     REFUSED(u32_table_record(0, 0, NULL, 0, NULL, 0, U32_TABLE_AND, 3, 1, answers, WORDS), U32_TABLE_LIST_FULL);
     REFUSED(u32_table_read(NULL, 0, 0, 0, NULL, 0, NULL, 0, answers, WORDS), U32_TABLE_TORN);
@@ -337,6 +380,7 @@ int main(void) {
     expect("the number of the signatures", u32_table_abi_1(), 1);
     lists();
     tables();
+    sums();
     no_arrays();
     printf("%u comparisons, %u failed\n", tried, failed);
     return failed != 0;

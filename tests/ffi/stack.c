@@ -45,6 +45,8 @@ static void fill(void) {
 }
 static void pad(void) { number = u32_table_pad(table, 10 * ROWS, answers[0]); }
 static void extend(void) { number = u32_table_extend(table, 10 * ROWS, aux, 3 * ROWS, challenges, 15, answers, 8); }
+/* a request for each place of the list, in its keys */
+static void client_sum(void) { number = u32_table_client_sum(keys, 3 * PLACES, challenges, 15, answers, 8); }
 static void check(void) { number = u32_table_check(table, 10 * ROWS, aux, 3 * ROWS, challenges, 15, answers, 8); }
 
 static void *run(void *call) {
@@ -74,7 +76,7 @@ int main(void) {
         void (*call)(void);
         size_t most;
     } calls[] = {{"record", record, 2000}, {"replay", replay, 2000}, {"compare", compare, 2000}, {"plan", plan, 2000}, {"write", write, 52000}, {"read", read, 120000},
-                 {"read, old length", read_old, 120000}, {"fill", fill, 12000}, {"pad", pad, 2000}, {"extend", extend, 2000}, {"check", check, 2000}};
+                 {"read, old length", read_old, 120000}, {"fill", fill, 12000}, {"pad", pad, 2000}, {"extend", extend, 2000}, {"check", check, 2000}, {"client_sum", client_sum, 2000}};
     int failed = 0;
     for (int i = 0; i < 15; i++) challenges[i] = (uint64_t)(1000 + 77 * i);
     size_t thread = taken(nothing);

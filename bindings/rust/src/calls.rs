@@ -1,4 +1,4 @@
-//! The ten calls over slices.
+//! The eleven calls over slices.
 use std::cmp::Ordering;
 use std::error::Error;
 use std::fmt;
@@ -464,4 +464,48 @@ pub fn check(table: &[u64], aux: &[u64], challenges: &[u64]) -> Result<Verdict, 
             value: [a, b, c],
         },
     })
+}
+
+/// The client's sum, the processor's end of the lookup: from (0, 0, 0), each request adds the inverse of its denominator. Requests are entries, three
+/// words each (opcode, left operand, right operand), as many as there are; the left operand of pow is taken modulo [`P`](crate::P). The answer is the
+/// sum, zero for no requests.
+///
+/// The denominator is that of [`extend`], of the row with the request's operands, its opcode as CI and, as Result, what the instruction computes; 0 for
+/// split.
+///
+/// Where all requests are recorded onto a list with no entries, none is refused and no denominator is (0, 0, 0), this is the last sum that [`fill`],
+/// [`pad`] and [`extend`] then make under the same challenges, with rows enough; and none of them refuses.
+///
+/// Refusals, in this order: shape (requests are not three words each, challenges not fifteen); unreduced (challenges); then request by request
+/// stranger, wide, bare log, flat.
+///
+/// ```
+/// # fn main() -> Result<(), u32_table::Refusal> {
+/// use u32_table::{client_sum, opcodes::{AND, LT}, Entry, List, Refusal, Table};
+/// let requests = [AND, 3, 1, LT, 2, 3, AND, 3, 1];
+/// let challenges: Vec<u64> = (1..=15).collect();
+///
+/// let mut list = List::new(4)?;
+/// for request in requests.chunks(3) {
+///     list.record(Entry::new(request[0], request[1], request[2]))?;
+/// }
+/// let mut table = Table::new();
+/// table.fill(&list)?;
+/// table.pad()?;
+/// assert_eq!(table.extend(&challenges)?, client_sum(&requests, &challenges)?);
+///
+/// // weights 1 and Indeterminate the sum of LHS, RHS, CI and Result: the first request's denominator is zero
+/// let mut flat = [0; 15];
+/// flat[0] = 3 + 1 + AND + 1;
+/// for weight in 1..5 {
+///     flat[3 * weight] = 1;
+/// }
+/// assert_eq!(client_sum(&requests, &flat), Err(Refusal::Flat));
+/// # Ok(())
+/// # }
+/// ```
+pub fn client_sum(requests: &[u64], challenges: &[u64]) -> Result<[u64; 3], Refusal> {
+    let mut answers = [0; 3];
+    done(sys::client_sum(requests, challenges, &mut answers))?;
+    Ok(answers)
 }

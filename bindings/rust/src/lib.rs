@@ -31,7 +31,9 @@
 //! # }
 //! ```
 //!
-//! The ten calls stand here too as functions over slices, for arrays that a program has already.
+//! [`client_sum`] is the other end of the lookup: the processor's sum over its requests, which equals the last sum of the table made of them.
+//!
+//! The eleven calls stand here too as functions over slices, for arrays that a program has already.
 //!
 //! # Words and elements
 //!
@@ -63,7 +65,7 @@ mod refusal;
 mod sys;
 mod table;
 
-pub use calls::{check, compare, extend, fill, pad, plan, read, record, refused_entry, replay, write};
+pub use calls::{check, client_sum, compare, extend, fill, pad, plan, read, record, refused_entry, replay, write};
 pub use calls::{Entry, Group, Plan, Sizes, Stopped, Verdict};
 pub use list::List;
 pub use opcode::Opcode;

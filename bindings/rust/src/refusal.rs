@@ -61,7 +61,8 @@ macro_rules! refusals {
 refusals! {
     /// An array has the wrong length, or the sizes are out of range: keys are three words a place, multiplicities one a place, used
     /// is at most the capacity and that at most [`MAX_PLACES`](crate::MAX_PLACES); a table is whole rows, at most
-    /// [`MAX_ROWS`](crate::MAX_ROWS); aux is three words a row; challenges are fifteen words; a trace is three words a step.
+    /// [`MAX_ROWS`](crate::MAX_ROWS); aux is three words a row; challenges are fifteen words; a trace is three words a step, and
+    /// requests are three words each.
     1 Shape "shape",
     /// An opcode that is none of the six; in [`replay`](crate::replay), none of the ten.
     2 Stranger "stranger",
@@ -77,7 +78,8 @@ refusals! {
     7 Short "short",
     /// A word that is [`P`](crate::P) or more.
     8 Unreduced "unreduced",
-    /// A row with CopyFlag 1 whose denominator is (0, 0, 0): U32Indeterminate equals its compressed row. See [`extend`](crate::extend).
+    /// A row with CopyFlag 1, or a request, whose denominator is (0, 0, 0): U32Indeterminate equals its compressed row. See [`extend`](crate::extend)
+    /// and [`client_sum`](crate::client_sum).
     9 Flat "flat",
     /// Stored bytes of neither of the two lengths, or more than [`MAX_PLACES`](crate::MAX_PLACES) entries in them; see [`read`](crate::read).
     10 Torn "torn",

@@ -171,3 +171,16 @@ pub fn check(table: &[u64], aux: &[u64], challenges: &[u64], answers: &mut [u64;
         )
     }
 }
+
+pub fn client_sum(requests: &[u64], challenges: &[u64], answers: &mut [u64; 3]) -> u64 {
+    unsafe {
+        c::u32_table_client_sum(
+            requests.as_ptr(),
+            requests.len(),
+            challenges.as_ptr(),
+            challenges.len(),
+            answers.as_mut_ptr(),
+            answers.len(),
+        )
+    }
+}

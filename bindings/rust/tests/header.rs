@@ -108,5 +108,5 @@ fn declarations_are_those_of_the_header() {
     let declared = file("bindings/rust/sys/src/lib.rs");
     let declared = signatures(declared.split("extern \"C\"").next().unwrap(), " fn ", in_rust);
     assert_eq!(header, declared);
-    assert_eq!(header.len(), 10);
+    assert_eq!(header.len(), 11);
 }

@@ -12,6 +12,7 @@ use Rattle.air.specs.Check.{checkReason, checkAll, ConstraintsHold}
 use Rattle.air.specs.Claim.{RowTells, DenominatorsNotZero, lastSum}
 use Rattle.fill.specs.Filling.{fillAll}
 use Rattle.fill.specs.Extending.{extendAll}
+use Rattle.client_sum.specs.Client.{clientAll}
 use Rattle.c_answers.specs.Exports.{lentList, lentDue, Exported}
 
 -- the check "answers zero": the word 0, and nothing more; else 1, then "group 0 to 3, (upper) row, index from 0 and three-word value"
@@ -42,6 +43,10 @@ ExtendLeaves table aux challenges answers auxAfter = auxAfter ≡ lentDue 3 answ
 -- check: the verdict
 abbrev pub CheckAnswers : (table aux challenges answers : List ℕ) → (r : ℕ) → (after : List ℕ) → Type 0
 CheckAnswers table aux challenges answers r after = Exported 7 (verdictDue (checkAll table aux challenges)) answers r after
+
+-- client_sum: the three words of the client's sum
+abbrev pub ClientAnswers : (requests challenges answers : List ℕ) → (r : ℕ) → (after : List ℕ) → Type 0
+ClientAnswers requests challenges answers r after = Exported 3 (clientAll requests challenges) answers r after
 
 -- ---- what it means that the check hands over zero (demand 3)
 -- it is done, and the first word of `answers` is 0

@@ -4,8 +4,10 @@ ghost use mathlib.Core.Path.{_≡_};
 ghost use Rattle.fill.specs.Padding.{padAll};
 ghost use Rattle.c_tables.specs.TableAnswers.{FillAnswers, FillLeaves, ExtendAnswers, ExtendLeaves};
 ghost use Rattle.c_tables.specs.TableAnswers.{CheckAnswers, SaysZeroIff, SaysZeroSound, SaysZeroSums};
+ghost use Rattle.c_tables.specs.TableAnswers.{ClientAnswers};
 use c_answers::SHAPE;
 use check_table::Verdict;
+use client_sum::Terminal;
 use extend::Extended;
 use fill::Filled;
 use list::Sizes;
@@ -17,6 +19,8 @@ const FILL_ANSWERS: usize = 1;
 const EXTEND_ANSWERS: usize = 3;
 
 const CHECK_ANSWERS: usize = 7;
+
+const CLIENT_ANSWERS: usize = 3;
 
 // Answers: the height.
 pub fn fill(
@@ -99,5 +103,23 @@ pub fn check(table: &[u64], aux: &[u64], challenges: &[u64], answers: &mut [u64]
             0
         }
         Verdict::Refused(reason) => reason.number(),
+    }
+}
+
+// Answers: the three words of the client's sum.
+pub fn client_sum(requests: &[u64], challenges: &[u64], answers: &mut [u64]) -> u64
+    ensures { λ r. ⌜ ClientAnswers (now (requests .entry)) (now (challenges .entry)) (now (answers .entry)) r (now (answers .exit)) ⌝ }
+{
+    if answers.len() < CLIENT_ANSWERS {
+        return SHAPE;
+    }
+    match client_sum::compute_terminal(requests, challenges) {
+        Terminal::Sum(terminal) => {
+            answers[0] = terminal.0.0;
+            answers[1] = terminal.1.0;
+            answers[2] = terminal.2.0;
+            0
+        }
+        Terminal::Refused(reason) => reason.number(),
     }
 }

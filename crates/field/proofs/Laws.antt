@@ -26,9 +26,10 @@ pub use Rattle.field.proofs.RingLaws.{addF-comm, addF-assoc, mulF-comm,
 pub use Rattle.field.proofs.Inverses.{invF-lt, invF-none, invF-product, invF-only, invF-by-product}
 pub use Rattle.field.proofs.Inverses.{invF-of-red, invF-not-zero, invF-half}
 -- ---- powers: powF a e < p; powF a 0 ≡ 1; powF a 1 ≡ a % p; powF a (e + 1) ≡ mulF (powF a e) a;
--- powF a (2 * e) ≡ mulF (powF a e) (powF a e); powF a (2 * e + 1) ≡ mulF (mulF (powF a e) (powF a e)) a; powF (a % p) e ≡ powF a e.
+-- powF a (2 * e) ≡ mulF (powF a e) (powF a e); powF a (2 * e + 1) ≡ mulF (mulF (powF a e) (powF a e)) a; powF (a % p) e ≡ powF a e;
+-- powF (mulF a a) e ≡ powF a (2 * e).
 -- Powers and inverses of numerals are computed: powF-is, invF-computed of proofs/Powers.antt
-pub use Rattle.field.proofs.Powers.{powF-lt, powF-zero, powF-one, powF-suc, powF-double, powF-double-suc, powF-of-red}
+pub use Rattle.field.proofs.Powers.{powF-lt, powF-zero, powF-one, powF-suc, powF-double, powF-double-suc, powF-of-red, powF-square}
 
 -- ---- words
 pub word-red : {a : ℕ} → a < p → a % p ≡ a

@@ -72,3 +72,8 @@ powF-double a e = ap (powF a) (two-mul e) ∙ powF-add a e e
 
 pub powF-double-suc : (a e : ℕ) → powF a (2 * e + 1) ≡ mulF (mulF (powF a e) (powF a e)) a
 powF-double-suc a e = powF-suc a (2 * e) ∙ ap (λ (x : ℕ). mulF x a) (powF-double a e)
+
+-- a power of a square
+pub powF-square : (a e : ℕ) → powF (mulF a a) e ≡ powF a (2 * e)
+unfolding powF mulF
+powF-square a e = (c-pow e c-mod ⨾ c-eq (sym (pow-even a e))) .same

@@ -2,7 +2,7 @@
 // equation, to its definition in specs/Elements.antt. The two that are handed a table or an inverse require that it is the right one.
 ghost use mathlib.Core.Path.{_≡_};
 ghost use Prim.Native.Nat.{_+_, _*_, _/_, _%_, _^_};
-ghost use Rattle.field.specs.Elements.{p, addF, subF, negF, mulF, invF, isZeroF, equalF};
+ghost use Rattle.field.specs.Elements.{p, addF, subF, negF, mulF, powF, invF, isZeroF, equalF};
 ghost use Rattle.field.specs.SmallInverses.{smallInverses};
 
 const TWO_POW_32: u64 = 4294967296;
@@ -395,6 +395,24 @@ impl BFieldElement {
         ensures { λ r. ⌜ r .0 ≡ mulF (self .0) (other .0) ⌝ }
     {
         BFieldElement::fold(wide_mul(self.0, other.0))
+    }
+
+    // The element to the power e, 1 for e = 0: by squares, one for each binary digit of e. The power that is asked for is always `power` times
+    // `square` to the power `rest`.
+    pub fn pow(self, e: u64) -> Self
+        ensures { λ r. ⌜ r .0 ≡ powF (self .0) e ⌝ }
+    {
+        let mut power = Self::ONE;
+        let mut square = self;
+        let mut rest = e;
+        while rest != 0 {
+            if rest % 2 == 1 {
+                power = power.mul(square);
+            }
+            square = square.mul(square);
+            rest /= 2;
+        }
+        power
     }
 
     // Euclid's algorithm on P and a, two divisions in a turn. Modulo P, a * t1 is r1 and a * t0 is -r0; and t1 * r0 + t0 * r1

@@ -74,6 +74,12 @@ module _ (c : Challenges) (row : Row) (bit : (row .copyFlag ≡ 0) ⊎ (row .cop
           (sym (liftX-word (row .lookupMultiplicity) m))
           ∙ sum-started (row .lookupMultiplicity) (rowDenominator c row) (invertible f)))
 
+-- ---- the sum over rows, then over more
+pub sum-join : (c : Challenges) (sum : Ext) (xs ys : List Row) → sumFrom c sum (xs ++ ys) ≡ sumFrom c (sumFrom c sum xs) ys
+unfolding sumFrom
+sum-join c sum [] ys = refl
+sum-join c sum (a ∷ xs) ys = sum-join c _ xs ys
+
 -- ---- only the CopyFlag 1 rows count, for the denominators and for the sum
 module _ (table challenges : List ℕ) where
   abbrev challenge : Challenges
@@ -90,11 +96,6 @@ module _ (table challenges : List ℕ) where
           → (t && (noneZero challenge xs && noneZero challenge ys)) ≡ ((t && noneZero challenge xs) && noneZero challenge ys)
       regroup true = refl
       regroup false = refl
-
-  sum-join : (sum : Ext) (xs ys : List Row) → sumFrom challenge sum (xs ++ ys) ≡ sumFrom challenge (sumFrom challenge sum xs) ys
-  unfolding sumFrom
-  sum-join sum [] ys = refl
-  sum-join sum (a ∷ xs) ys = sum-join _ xs ys
 
   one-not-zero : (row : Row) → denominatorOk (summandOf challenge row) ≡ noneZero challenge (copyFlag1 (row ∷ []))
   unfolding denominatorOk noneZero copyFlag1
@@ -133,5 +134,5 @@ module _ (table challenges : List ℕ) where
   sum-of-rows (suc n) =
       ap (λ (sum : Ext). addSummand sum (summandOf challenge (rowAt table n))) (sum-of-rows n)
       ∙ one-sum _ (rowAt table n)
-      ∙ sym (sum-join zeroX (copyFlag1 (tableRowsTo table n)) (copyFlag1 (rowAt table n ∷ [])))
+      ∙ sym (sum-join challenge zeroX (copyFlag1 (tableRowsTo table n)) (copyFlag1 (rowAt table n ∷ [])))
       ∙ ap (sumFrom challenge zeroX) (sym (flagged-join (tableRowsTo table n) (rowAt table n ∷ [])))

@@ -7,7 +7,7 @@ ghost use Rattle.words.specs.declared.Refusal.the-variants.{Wide};
 ghost use Rattle.words.specs.Refusals.{declineIf};
 ghost use Rattle.isa.specs.Entries.{lhs, rhs, rhsLimit, entry, judgeAsItIs, admitStored, admitted, dominant, height, compareWords, compareEntries};
 ghost use Rattle.isa.specs.Entries.{admission as Entries·admission, admit as Entries·admit};
-ghost use Rattle.isa.specs.PlainFunctions.{floorLog2};
+ghost use Rattle.isa.specs.PlainFunctions.{floorLog2, plainResult};
 use field::BFieldElement;
 use words::Judgement;
 use words::Refusal;
@@ -166,6 +166,25 @@ impl U32TableEntry {
             1
         } else {
             2 + floor_log2(dominant_operand)
+        }
+    }
+
+    // The plain function of the instruction, which is the Result of the entry's first row; 0 for split, which has none.
+    pub fn plain_result(self) -> u64
+        ensures { λ r. ⌜ r ≡ plainResult (self .opcode) (lhs self) (rhs self) ⌝ }
+    {
+        let opcode = self.opcode;
+        match opcode {
+            LT => if self.left_operand < self.right_operand {
+                1
+            } else {
+                0
+            },
+            AND => self.left_operand & self.right_operand,
+            LOG_2_FLOOR => floor_log2(self.left_operand),
+            POW => BFieldElement(self.left_operand).pow(self.right_operand).0,
+            POP_COUNT => u64::count_ones(self.left_operand) as u64,
+            _ => 0,
         }
     }
 

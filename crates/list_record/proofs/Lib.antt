@@ -3,3 +3,5 @@ pub mod RecordingCases
 pub mod OneKey
 pub mod RecordEach
 pub mod Stores
+pub mod Views
+pub mod RecordViews

@@ -1,5 +1,6 @@
 -- Recordings one after the other: an accepted one goes on with the list that it leaves (each-accepted), a refused one is the last (each-refused)
--- and leaves its list as it was (refused-left). An accepted run answers no value (each-done), and two runs are one (each-append). Assumes nothing.
+-- and leaves its list as it was (refused-left). In an accepted run each is accepted (each-first); it answers no value (each-done), and two runs are one
+-- (each-append). Assumes nothing.
 use Prim.Native.Nat.{ℕ}
 use mathlib.Core.Path.{_≡_, refl, sym, ap, _∙_}
 use mathlib.Core.Bool.{Bool, true, false}
@@ -38,30 +39,29 @@ module _ (l : U32List) (e : U32TableEntry) (es : List U32TableEntry) where
   unfolding recordEach
   each-refused n = rw (ne-eqb (numberOf (recordAll l e)) 0 n)
 
--- an accepted run
+-- an accepted run of one or more: the first is accepted, and the rest are a run from the list that it leaves
+pub each-first : (l : U32List) (e : U32TableEntry) (es : List U32TableEntry) → numberOf (recordEach l (e ∷ es)) ≡ 0
+    → (numberOf (recordAll l e) ≡ 0) × (recordEach l (e ∷ es) ≡ recordEach (recordAll l e .left) es)
+each-first l e es z = go (eqb (numberOf (recordAll l e)) 0) refl where
+  go : (t : Bool) → eqb (numberOf (recordAll l e)) 0 ≡ t
+      → (numberOf (recordAll l e) ≡ 0) × (recordEach l (e ∷ es) ≡ recordEach (recordAll l e .left) es)
+  go true q = let a = eqb-true _ _ q in (a, each-accepted l e es a)
+  go false q = let n = eqb-false _ _ q in absurd (n (sym (ap numberOf (each-refused l e es n)) ∙ z))
+
 pub each-done : (l : U32List) (es : List U32TableEntry) → numberOf (recordEach l es) ≡ 0 → recordEach l es .answer ≡ done []
 unfolding recordEach
 each-done l [] z = refl
-each-done l (e ∷ es) z = go (each-done (recordAll l e .left) es) (eqb (numberOf (recordAll l e)) 0) refl where
-  go : (numberOf (recordEach (recordAll l e .left) es) ≡ 0 → recordEach (recordAll l e .left) es .answer ≡ done [])
-      → (t : Bool) → eqb (numberOf (recordAll l e)) 0 ≡ t → recordEach l (e ∷ es) .answer ≡ done []
-  go rest true q =
-      let step = each-accepted l e es (eqb-true _ _ q) in
-      ap (λ (o : Outcome U32List). o .answer) step ∙ rest (sym (ap numberOf step) ∙ z)
-  go rest false q = let n = eqb-false _ _ q in absurd (n (sym (ap numberOf (each-refused l e es n)) ∙ z))
+each-done l (e ∷ es) z =
+    let first = each-first l e es z in
+    ap (λ (o : Outcome U32List). o .answer) (first .1) ∙ each-done (recordAll l e .left) es (sym (ap numberOf (first .1)) ∙ z)
 
 -- two runs, the first of which is accepted
 pub each-append : (l : U32List) (xs ys : List U32TableEntry) → numberOf (recordEach l xs) ≡ 0
     → recordEach l (xs ++ ys) ≡ recordEach (recordEach l xs .left) ys
 unfolding recordEach
 each-append l [] ys z = refl
-each-append l (e ∷ es) ys z = go (each-append (recordAll l e .left) es ys) (eqb (numberOf (recordAll l e)) 0) refl where
-  go : (numberOf (recordEach (recordAll l e .left) es) ≡ 0
-      → recordEach (recordAll l e .left) (es ++ ys) ≡ recordEach (recordEach (recordAll l e .left) es .left) ys)
-      → (t : Bool) → eqb (numberOf (recordAll l e)) 0 ≡ t → recordEach l (e ∷ (es ++ ys)) ≡ recordEach (recordEach l (e ∷ es) .left) ys
-  go rest true q =
-      let a = eqb-true _ _ q in
-      let step = each-accepted l e es a in
-      each-accepted l e (es ++ ys) a ∙ rest (sym (ap numberOf step) ∙ z)
-      ∙ ap (λ (o : Outcome U32List). recordEach (o .left) ys) (sym step)
-  go rest false q = let n = eqb-false _ _ q in absurd (n (sym (ap numberOf (each-refused l e es n)) ∙ z))
+each-append l (e ∷ es) ys z =
+    let first = each-first l e es z in
+    each-accepted l e (es ++ ys) (first .0)
+    ∙ each-append (recordAll l e .left) es ys (sym (ap numberOf (first .1)) ∙ z)
+    ∙ ap (λ (o : Outcome U32List). recordEach (o .left) ys) (sym (first .1))

@@ -1,7 +1,7 @@
 -- A running sum. A summand that does not count adds nothing, one that does its multiplicity over its denominator; the next sum is the last
--- with the next summand; its words are below p, by induction on the summands. Assumes nothing.
-use Prim.Native.Nat.{ℕ, zero, suc, _+_}
-use mathlib.Core.Path.{_≡_, ap, _∙_}
+-- with the next summand; its words are below p, and it depends on the summands before it alone, by induction on the summands. Assumes nothing.
+use Prim.Native.Nat.{ℕ, zero, suc, _+_, _<_}
+use mathlib.Core.Path.{_≡_, refl, ap, _∙_}
 use mathlib.Core.Bool.{Bool, true, false, cond}
 use native.Mathlib.Numerals.{add-one}
 use native.Mathlib.Omega.{arith}
@@ -36,3 +36,9 @@ module _ (s : ℕ → Summand) where
           → Reduced (cond t (addX (runningSum s n) (scaleX (s n .multiplicity) (invX (s n .denominator)))) (runningSum s n))
       either true h = addX-reduced _ _
       either false h = h
+
+-- it depends on the first n summands alone
+pub sum-cong : (s t : ℕ → Summand) (n : ℕ) → ((i : ℕ) → i < n → s i ≡ t i) → runningSum s n ≡ runningSum t n
+unfolding runningSum
+sum-cong s t zero f = refl
+sum-cong s t (suc n) f = rw (sum-cong s t n (λ i l. f i (omega arith)), f n (omega arith))

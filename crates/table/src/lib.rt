@@ -202,7 +202,7 @@ pub struct Challenges {
 impl Challenges {
     pub const WIDTH: usize = 5 * XFieldElement::WIDTH;
 
-    fn has_shape(words: &[u64]) -> bool
+    pub fn has_shape(words: &[u64]) -> bool
         ensures { λ r. ⌜ r ≡ challengesShape (now (words .entry)) ⌝ }
     {
         words.len() == Self::WIDTH

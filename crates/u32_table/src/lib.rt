@@ -13,6 +13,7 @@ ghost use Rattle.c_lists.specs.ListAnswers.{withUsed, compareAll};
 ghost use Rattle.fill.specs.Padding.{padAll};
 ghost use Rattle.c_tables.specs.TableAnswers.{FillAnswers, FillLeaves, ExtendAnswers, ExtendLeaves};
 ghost use Rattle.c_tables.specs.TableAnswers.{CheckAnswers, SaysZeroIff, SaysZeroSound, SaysZeroSums};
+ghost use Rattle.c_tables.specs.TableAnswers.{ClientAnswers};
 
 // The number of these signatures. It is raised whenever one of them changes, and not where a function is added: here, in the name below, in include/u32_table.h and in the Rust
 // crate. Both name the symbol, so a program does not link with a library of other signatures.
@@ -194,4 +195,16 @@ pub extern "C" fn u32_table_check(
     ensures sum { λ r. ⌜ SaysZeroSums (now (table .entry)) (now (aux .entry)) (now (challenges .entry)) r (now (answers .exit)) ⌝ }
 {
     c_tables::check(table, aux, challenges, answers)
+}
+
+// Answers: the three words of the client's sum.
+#[no_mangle]
+pub extern "C" fn u32_table_client_sum(
+    requests: &[u64],
+    challenges: &[u64],
+    answers: &mut [u64],
+) -> u64
+    ensures { λ r. ⌜ ClientAnswers (now (requests .entry)) (now (challenges .entry)) (now (answers .entry)) r (now (answers .exit)) ⌝ }
+{
+    c_tables::client_sum(requests, challenges, answers)
 }

@@ -2,8 +2,8 @@
 -- addX, subX, mulX and their fellows are made of stays shut above the fields. Identities of sums and products alone are the ring
 -- solver's (proofs/Ring.antt of the crate field, instance 𝔼 of proofs/RingLawsX.antt, with neg-oneX for `combine`).
 -- Assumes nothing.
-use Prim.Native.Nat.{ℕ, _-_, _%_, _<_}
-use mathlib.Core.Path.{_≡_, refl, sym, _∙_, ap, subst}
+use Prim.Native.Nat.{ℕ, _+_, _-_, _%_, _<_}
+use mathlib.Core.Path.{_≡_, refl, sym, _∙_, ap, ap₂, subst}
 use mathlib.Core.Logic.{_≢_, _↔_}
 use mathlib.Core.Bool.{Bool, true, false, not, _&&_, and-true, and-eq-true-iff, true≢false}
 use mathlib.Core.List.{[], _∷_}
@@ -84,6 +84,26 @@ subX-to-addX x y r b e = sym (reduced-same x b) ∙ sym (subX-addX x y) ∙ ap (
 
 pub addX-to-subX : (x y r : Ext) → Reduced r → x ≡ addX y r → subX x y ≡ r
 addX-to-subX x y r b e = ap (λ t. subX t y) (e ∙ addX-comm y r) ∙ addX-subX r y ∙ reduced-same r b
+
+-- ---- sums of several
+-- the last two of three change places
+pub addX-exchange : (x y z : Ext) → addX (addX x y) z ≡ addX (addX x z) y
+addX-exchange x y z = addX-assoc x y z ∙ ap (addX x) (addX-comm y z) ∙ sym (addX-assoc x z y)
+
+-- what is added on both sides can be left out
+pub addX-cancel : (x y z : Ext) → addX x z ≡ addX y z → reduceX x ≡ reduceX y
+addX-cancel x y z e = sym (addX-subX x z) ∙ ap (λ (t : Ext). subX t z) e ∙ addX-subX y z
+
+-- one more of an element
+pub scaleX-suc : (m : ℕ) (x : Ext) → scaleX (m + 1) x ≡ addX (scaleX m x) x
+unfolding addF
+scaleX-suc m x =
+    scaleX-is (m + 1) x
+    ∙ ap (λ (t : Ext). mulX t x) (sym (liftX-mod (m + 1)) ∙ liftX-addF m 1)
+    ∙ mulX-comm (addX (liftX m) (liftX 1)) x
+    ∙ mulX-addX x (liftX m) (liftX 1)
+    ∙ ap₂ addX (mulX-comm x (liftX m) ∙ sym (scaleX-is m x)) (mulX-comm x (liftX 1) ∙ mulX-one x)
+    ∙ addX-of-red (scaleX m x) x
 
 -- ---- base values
 pub liftX-word : (v : ℕ) → v < p → liftX v ≡ ext v 0 0

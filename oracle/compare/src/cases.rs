@@ -76,6 +76,9 @@ pub struct Counts {
     pub replays: [u64; 2],
     /// div_mod steps that stop at 6 where lt alone had a place, at 5 of lt where split had no place, and at 13.
     pub stops: [u64; 3],
+    /// Client's sums, their requests, the rows of the tables made of these; sums that `compute_terminal` made too; a first zero denominator, and one
+    /// before a request that is not admitted.
+    pub clients: [u64; 6],
     pub round_trips: u64,
     pub elements: u64,
     /// By document 01's number.
@@ -111,6 +114,11 @@ pub enum Case {
         list: Vec<Entry>,
         capacity: usize,
         trace: Vec<Key>,
+    },
+    /// Requests of the client, and their sum.
+    Client {
+        requests: Vec<Key>,
+        challenges: Challenges,
     },
     Order {
         left: Key,
@@ -279,6 +287,7 @@ impl Comparison {
             Case::Table { rows, aux, challenges, filled } => self.table(rows, aux, challenges, *filled),
             Case::Record { list, capacity, keys } => self.record(list, *capacity, keys),
             Case::Replay { list, capacity, trace } => self.replay(list, *capacity, trace),
+            Case::Client { requests, challenges } => self.client(requests, challenges),
             Case::Order { left, right } => self.order(*left, *right),
             Case::Elements { words } => self.elements(words),
             Case::Shapes => self.shapes(),
@@ -374,6 +383,10 @@ impl Comparison {
             let answer = port::pad(&mut table, 0);
             self.refused("pad of no whole rows", answer, SHAPE)?;
             self.untouched("no whole rows", &table, &old_words(words))?;
+        }
+        for (request_words, challenge_words) in [(1, 15), (2, 15), (4, 15), (0, 14), (3, 16), (3, 0), (5, 14)] {
+            let answer = port::client_sum(&old_words(request_words), &vec![u64::MAX; challenge_words]);
+            self.refused("client_sum with a wrong shape", answer, SHAPE)?;
         }
         let table = vec![0; 20];
         for (aux_words, challenge_words) in [(5, 15), (7, 15), (9, 15), (0, 15), (6, 14), (6, 16), (6, 0)] {
@@ -841,6 +854,53 @@ impl Comparison {
         self.same("replay: multiplicities", &ours.multiplicities, &expected.multiplicities)
     }
 
+    /// The requests' rows are the first rows of the sections that the original fills. Its fold over them is the sum, its `compute_terminal` too where the
+    /// compressed rows are base elements; and so is the last sum of the table that it fills with the recordings, pads and extends.
+    fn client(&mut self, requests: &[Key], challenges: &Challenges) -> Same {
+        let answer = port::client_sum(requests.as_flattened(), challenges);
+        if !is_reduced(challenges) {
+            self.note(listed::WORDS);
+            return self.refused("client_sum", answer, UNREDUCED);
+        }
+        let mut rows: Vec<Row> = vec![];
+        for (i, &key) in requests.iter().enumerate() {
+            if let Some(reason) = key_reason(key) {
+                return self.refused("client_sum", answer, reason);
+            }
+            rows.push(theirs("fill", || filled(&[Entry { key, multiplicity: 1 }]))?[0]);
+            if has_zero_denominator(&rows[i..], challenges) {
+                self.note(listed::FLAT);
+                self.counts.clients[4] += 1;
+                self.counts.clients[5] += requests[i + 1..].iter().any(|&key| key_reason(key).is_some()) as u64;
+                self.panics("the client's sum", || client_sum(&rows, challenges))?;
+                if let Ok(Some(sum)) = caught(|| compute_terminal(&rows, challenges)) {
+                    return Err(format!("compute_terminal is to panic and answers {sum:?}"));
+                }
+                return self.refused("client_sum", answer, FLAT);
+            }
+        }
+        self.counts.clients[0] += 1;
+        self.counts.clients[1] += requests.len() as u64;
+        let ours = answer.map_err(|number| format!("client_sum: the port refuses with {number}"))?;
+        let sum = theirs("the client's sum", || client_sum(&rows, challenges))?;
+        self.same("client_sum", &ours, &sum)?;
+        if let Some(sum) = theirs("compute_terminal", || compute_terminal(&rows, challenges))? {
+            self.counts.clients[3] += 1;
+            self.same("client_sum and compute_terminal", &ours, &sum)?;
+        }
+        let table = theirs("the table of the recordings", || {
+            let list = record(&[], requests);
+            let height = list_height(&list);
+            let mut table = vec![[0; 10]; height.max(1)];
+            fill(&list, &mut table);
+            pad(&mut table, height);
+            table
+        })?;
+        let sums = theirs("the sums of the recordings", || extend(&table, challenges))?;
+        self.counts.clients[2] += table.len() as u64;
+        self.same("client_sum and the last sum", &ours, &sums[sums.len() - 1])
+    }
+
     fn order(&mut self, left: Key, right: Key) -> Same {
         self.counts.orders += 1;
         let ours = port::compare(left, right);
@@ -1042,6 +1102,18 @@ impl Case {
                 ways.extend(capacities.map(|capacity| case(list, capacity as usize, trace)));
                 ways
             }
+            Case::Client { requests, challenges } => {
+                let case = |requests: &[Key], challenges| Case::Client { requests: requests.to_vec(), challenges };
+                let mut ways: Vec<Case> = smaller_keys(requests).iter().map(|requests| case(requests, *challenges)).collect();
+                for i in 0..15 {
+                    for word in smaller_words(challenges[i]) {
+                        let mut challenges = *challenges;
+                        challenges[i] = word;
+                        ways.push(case(requests, challenges));
+                    }
+                }
+                ways
+            }
             Case::Order { left, right } => {
                 let words = [&left[..], &right[..]].concat();
                 let case =
@@ -1087,6 +1159,10 @@ impl std::fmt::Display for Case {
                 writeln!(f, "a replay onto a list of {}, capacity {capacity}", list.len())?;
                 entries(f, list)?;
                 trace.iter().try_for_each(|step| writeln!(f, "  step {}", words(step)))
+            }
+            Case::Client { requests, challenges } => {
+                writeln!(f, "the client's sum, challenges {}", words(challenges))?;
+                requests.iter().try_for_each(|request| writeln!(f, "  request {}", words(request)))
             }
             Case::Order { left, right } => writeln!(f, "order of {} and {}", words(left), words(right)),
             Case::Elements { words: all } => writeln!(f, "elements {}", words(all)),

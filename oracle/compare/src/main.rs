@@ -89,6 +89,10 @@ fn compare(seed: u64, size: Size) -> ExitCode {
             println!("NOT COMPARED (seed {seed}): steps of div_mod that stop, {:?}", counts.stops);
             ExitCode::FAILURE
         }
+        None if counts.clients.contains(&0) => {
+            println!("NOT COMPARED (seed {seed}): the client's sums, {:?}", counts.clients);
+            ExitCode::FAILURE
+        }
         None => {
             println!("seed {seed} seconds {seconds} differences 0");
             ExitCode::SUCCESS
@@ -114,6 +118,10 @@ fn print_counts(counts: &Counts) {
     println!(
         "replays {} steps done {}; div_mod stopped at split's 6 {} at lt's 5 with split's 6 {} at 13 {}",
         counts.replays[0], counts.replays[1], counts.stops[0], counts.stops[1], counts.stops[2]
+    );
+    println!(
+        "client's sums {} requests {} rows of their tables {} by compute_terminal {}; zero denominators {} before a request not admitted {}",
+        counts.clients[0], counts.clients[1], counts.clients[2], counts.clients[3], counts.clients[4], counts.clients[5]
     );
     println!("multiplicities past 32 bits, entries {} recordings {}", counts.large[0], counts.large[1]);
     println!("bases of pow of p or more, entries {} held {} recordings {}", counts.raw[0], counts.raw[1], counts.raw[2]);
@@ -282,6 +290,7 @@ impl Run {
             random_table(random),
             recordings(random),
             replays(random),
+            requests(random, most),
             order(random),
             order(random),
             Case::Elements { words: (0..12).map(|_| any_word(random)).collect() },
@@ -495,6 +504,40 @@ fn replays(random: &mut Random) -> Case {
     }
     let capacity = list.len() + random.one_of(&[0, 0, 1, 1, 2, 3, 5, 8]);
     Case::Replay { list, capacity, trace }
+}
+
+/// Requests of few keys and of others, at most `most` and twenty; base elements as weights in half of the cases, and U32Indeterminate now and then the
+/// compressed row of the last one. Now and then a request that is not admitted, or a challenge of p or more.
+fn requests(random: &mut Random, most: u64) -> Case {
+    let few: Vec<Key> = (0..3).map(|_| random.key()).collect();
+    let mut requests: Vec<Key> = (0..random.below(most + 20))
+        .map(|_| {
+            let key = if random.below(2) == 0 { random.one_of(&few) } else { random.key() };
+            now_and_then_raw(random, key)
+        })
+        .collect();
+    let mut challenges = random.challenges();
+    if random.below(2) == 0 {
+        (3..15).filter(|i| i % 3 > 0).for_each(|i| challenges[i] = 0);
+        if random.below(4) == 0 {
+            (3..15).for_each(|i| challenges[i] = challenges[i].min(random.below(4)));
+            challenges[..3].copy_from_slice(&[random.below(60), 0, 0]);
+        }
+    }
+    if let Some(&key) = requests.last().filter(|_| random.below(8) == 0) {
+        let flat = compressed_row(&filled(&[Entry { key, multiplicity: 1 }])[0], &challenges);
+        challenges[..3].copy_from_slice(&flat);
+    }
+    if random.below(8) == 0 {
+        let key =
+            random.one_of(&[[5, 0, 0], [22, 1, 2], [14, 1 << 32, 0], [14, 0, P], [12, 0, 3], [30, P, 1 << 32], [12, 0, 1 << 32]]);
+        let i = random.below(requests.len() as u64 + 1) as usize;
+        requests.insert(i, key);
+    }
+    if random.below(32) == 0 {
+        challenges[random.below(15) as usize] = random.one_of(&[P, P + 1, u64::MAX]);
+    }
+    Case::Client { requests, challenges }
 }
 
 fn order(random: &mut Random) -> Case {

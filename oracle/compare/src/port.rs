@@ -15,7 +15,7 @@ pub type Answer<const N: usize> = Result<[u64; N], u64>;
 
 /// What a call hands back: its number, or one of its arrays. With a fault set, one word of it is changed after every twentieth such call,
 /// as a wrong library would: the comparison must find it.
-pub const FAULTS: [&str; 35] = [
+pub const FAULTS: [&str; 37] = [
     "record number",
     "record keys",
     "record multiplicities",
@@ -45,6 +45,8 @@ pub const FAULTS: [&str; 35] = [
     "extend answers",
     "check number",
     "check answers",
+    "client_sum number",
+    "client_sum answers",
     "constraints values",
     "products out",
     "inverses out",
@@ -395,6 +397,20 @@ pub fn check(table: &[u64], aux: &[u64], challenges: &[u64]) -> Answer<7> {
     sums.unchanged(aux);
     weights.unchanged(challenges);
     answered(number, answers, |words| if words[0] == 0 { 1 } else { 7 })
+}
+
+/// The three words of the client's sum.
+pub fn client_sum(requests: &[u64], challenges: &[u64]) -> Answer<3> {
+    let call = "client_sum";
+    let mut lent = Lent::new(call, "requests", requests);
+    let mut weights = Lent::new(call, "challenges", challenges);
+    let mut answers = answers(call, 3);
+    let number = unsafe {
+        c::u32_table_client_sum(lent.pointer(), lent.len(), weights.pointer(), weights.len(), answers.pointer(), answers.len())
+    };
+    lent.unchanged(requests);
+    weights.unchanged(challenges);
+    answered(number, answers, |_| 3)
 }
 
 // ------------------------------------------------------------------------------------------------------------------ the insides

@@ -9,7 +9,7 @@
 #[macro_use]
 mod symbol;
 
-/// Hands the ten declarations to the macro that is named.
+/// Hands the eleven declarations to the macro that is named.
 #[macro_export]
 macro_rules! functions {
     ($to:ident) => {
@@ -111,6 +111,14 @@ macro_rules! functions {
                 table_words: usize,
                 aux: *const u64,
                 aux_words: usize,
+                challenges: *const u64,
+                challenge_words: usize,
+                answers: *mut u64,
+                answer_words: usize,
+            );
+            fn u32_table_client_sum(
+                requests: *const u64,
+                request_words: usize,
                 challenges: *const u64,
                 challenge_words: usize,
                 answers: *mut u64,

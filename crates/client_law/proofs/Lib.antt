@@ -1,0 +1,4 @@
+pub mod Requests
+pub mod TermSums
+pub mod Servers
+pub mod ClientLaw

@@ -1,0 +1,116 @@
+-- The table's end, of an admitted list. The sum over its first rows is that over its places (server-sum). Where no key's denominator is zero and what
+-- is lent is right, neither fill nor extend declines (fill-fine, extend-fine), and the last sum stands in the last row of aux (last-sum). Assumes nothing.
+use Prim.Native.Nat.{ℕ, zero, suc, _+_, _-_, _≤_, _<_}
+use mathlib.Core.Path.{_≡_, refl, sym, ap, _∙_}
+use mathlib.Core.Bool.{true, not, and-eq-true-iff}
+use mathlib.Core.List.{List, [], _∷_, _++_}
+use mathlib.Core.Logic.{_≢_}
+use native.Mathlib.Omega.{arith}
+use borrow.Author.Tests.{le-ltb}
+use Rattle.words.specs.Places.{placesFrom}
+use Rattle.words.specs.Outcomes.{Outcome}
+use Rattle.words.specs.declared.Judgement.the-variants.{Fine}
+use Rattle.words.specs.declared.Refusal.the-variants.{Shape, Short, Unreduced, Flat}
+use Rattle.words.proofs.Judgements.{or-next, decline-false, decline-not-true}
+use Rattle.words.proofs.Outcomes.{outcome-fine}
+use Rattle.xfield.specs.Extension.{Ext, zeroX, addX, isZeroX}
+use Rattle.xfield.proofs.Laws.{reduced-same, isZeroX-no}
+use Rattle.isa.specs.declared.U32TableEntry.{U32TableEntry}
+use Rattle.list.specs.Lists.{U32List, used, entryAt, multiplicityAt}
+use Rattle.list.specs.Heights.{sectionPlacesTo, listHeight}
+use Rattle.list.proofs.Places.{section-places-to}
+use Rattle.list.proofs.JudgedLists.{ListAdmitted, admitted-fine, every-place, places-more}
+use Rattle.list_record.proofs.Views.{EachPlace}
+use Rattle.list_record.proofs.RecordViews.{viewOf}
+use Rattle.table.specs.Columns.{Row, rowCount, auxAt}
+use Rattle.table.specs.Challenges.{Challenges, challengesOf}
+use Rattle.sums.specs.RunningSum.{runningSum}
+use Rattle.sums.specs.LookupSum.{summandAt, lookupSum}
+use Rattle.sums.proofs.SumWords.{sums-at}
+use Rattle.sums.proofs.PlainSums.{sumX}
+use Rattle.fill_sections.specs.Sections.{firstRow}
+use Rattle.fill.specs.Filling.{fillReason}
+use Rattle.fill.specs.Extending.{extendAll}
+use Rattle.four_calls.specs.FourCalls.{firstRowsAt, firstRows, noneZero, sumFrom, extendRefusals, paddedTable, extendedAux, AfterFill}
+use Rattle.four_calls.proofs.Calls.{fill-answer, fill-done}
+use Rattle.four_calls.proofs.Sums.{sum-join}
+use Rattle.four_calls.proofs.FourCalls.{padded-rows, after-fill}
+use Rattle.client_sum.specs.Client.{entryDenominator}
+use Rattle.client_law.specs.ClientLaw.{RightlyLent}
+use Rattle.client_law.proofs.Requests.{entry-reduced}
+use Rattle.client_law.proofs.TermSums.{termAt, termSum}
+
+-- ---- the sum over the first rows
+
+rows-append : (l : U32List) (is js : List ℕ) → firstRowsAt l (is ++ js) ≡ firstRowsAt l is ++ firstRowsAt l js
+unfolding firstRowsAt
+rows-append l [] js = refl
+rows-append l (i ∷ is) js = ap (λ (rs : List Row). firstRow (entryAt l i) (multiplicityAt l i) ∷ rs) (rows-append l is js)
+
+-- of the first n places
+sum-to : (c : Challenges) (l : U32List) (n : ℕ) → sumFrom c zeroX (firstRowsAt l (sectionPlacesTo l n)) ≡ sumX (termAt c (viewOf l)) n
+unfolding sumFrom firstRowsAt sectionPlacesTo sumX firstRow viewOf
+sum-to c l zero = refl
+sum-to c l (suc n) =
+    ap (λ (is : List ℕ). sumFrom c zeroX (firstRowsAt l is)) (places-more l n (every-place l n))
+    ∙ ap (sumFrom c zeroX) (rows-append l (sectionPlacesTo l n) (n ∷ []))
+    ∙ sum-join c zeroX (firstRowsAt l (sectionPlacesTo l n)) (firstRowsAt l (n ∷ []))
+    ∙ ap (λ (x : Ext). addX x (termAt c (viewOf l) n)) (sum-to c l n)
+
+pub server-sum : (c : Challenges) (l : U32List) → sumFrom c zeroX (firstRows l) ≡ termSum c (viewOf l)
+unfolding termSum viewOf
+server-sum c l = sum-to c l (used l)
+
+-- ---- no first row's denominator is zero
+
+denominator-not-zero : (c : Challenges) (e : U32TableEntry) → entryDenominator c e ≢ zeroX → not (isZeroX (entryDenominator c e)) ≡ true
+denominator-not-zero c e n = rw (isZeroX-no (entryDenominator c e) (λ z. n (sym (reduced-same _ (entry-reduced c e)) ∙ z)))
+
+none-from : (c : Challenges) (l : U32List) (i n : ℕ) → ((j : ℕ) → i ≤ j → j < i + n → entryDenominator c (entryAt l j) ≢ zeroX)
+    → noneZero c (firstRowsAt l (placesFrom i n)) ≡ true
+unfolding noneZero firstRowsAt placesFrom firstRow
+none-from c l i zero f = refl
+none-from c l i (suc n) f =
+    and-eq-true-iff _ _ .1 (
+      denominator-not-zero c (entryAt l i) (f i (omega arith) (omega arith)),
+      none-from c l (suc i) n (λ j a b. f j (omega arith) (omega arith)),
+    )
+
+pub none-zero : (c : Challenges) (l : U32List) → EachPlace (λ k m. entryDenominator c k ≢ zeroX) (viewOf l) → noneZero c (firstRows l) ≡ true
+unfolding viewOf
+none-zero c l each =
+    ap (λ (is : List ℕ). noneZero c (firstRowsAt l is)) (section-places-to l (used l))
+    ∙ none-from c l 0 (used l) (λ j a b. each j (omega arith))
+
+-- ---- nothing is declined
+
+module _ (l : U32List) (table aux challenges : List ℕ) (lent : RightlyLent (listHeight l) table aux challenges) where
+  pub fill-fine : ListAdmitted l → fillReason l table ≡ Fine
+  unfolding fillReason
+  fill-fine a =
+      or-next _ (decline-not-true Shape (lent .table-shape))
+      ∙ or-next _ (admitted-fine l a)
+      ∙ decline-false Short (le-ltb (rowCount table) (listHeight l) (lent .room))
+
+  pub extend-fine : noneZero (challengesOf challenges) (firstRows l) ≡ true → extendRefusals l table aux challenges ≡ Fine
+  unfolding extendRefusals
+  extend-fine n =
+      or-next _ (decline-not-true Shape (and-eq-true-iff _ _ .1 (lent .aux-shape, lent .challenges-shape)))
+      ∙ or-next _ (decline-not-true Unreduced (lent .challenges-reduced))
+      ∙ decline-not-true Flat n
+
+  -- the sum over the first rows stands in the last row
+  pub last-sum : fillReason l table ≡ Fine → extendRefusals l table aux challenges ≡ Fine → 0 < rowCount table
+      → auxAt (extendedAux l table (listHeight l) aux challenges) (rowCount table - 1) ≡ sumFrom (challengesOf challenges) zeroX (firstRows l)
+  unfolding extendAll lookupSum
+  last-sum f e h =
+      let padded = paddedTable l table (listHeight l) in
+      let answer = fill-answer l table f in
+      let rows : rowCount padded ≡ rowCount table = padded-rows (fill-done l table (listHeight l) answer) in
+      let after : AfterFill l table (listHeight l) = after-fill l table (listHeight l) answer in
+      let s = summandAt padded challenges in
+      let all : suc (rowCount table - 1) ≡ rowCount padded = omega arith in
+      ap (λ (o : Outcome (List ℕ)). auxAt (o .left) (rowCount table - 1)) (outcome-fine _ _ _ (after .extend-refuses aux challenges ∙ e))
+      ∙ sums-at s (rowCount padded) (rowCount table - 1) (omega arith)
+      ∙ ap (runningSum s) all
+      ∙ after .sum-is challenges

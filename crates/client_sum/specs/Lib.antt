@@ -1,0 +1,2 @@
+pub mod Client
+pub mod Flat

@@ -1,0 +1,73 @@
+-- A list by its places, for laws over many calls: how many places are used, and the key and the multiplicity at each. A key is the entry as admission
+-- hands it back. What a call does to the places is one of two things: the count of one place is changed (Changed), or a key is appended (Appended).
+-- What holds of the key and the count at every place goes on to hold where it holds at the place that is new (changed-each, appended-each,
+-- recorded-each). Nothing here speaks of the arrays; viewOf and record-view (RecordViews.antt) say how a list and a recording are such. Assumes nothing.
+use Prim.Native.Nat.{ℕ, suc, _+_, _≤_, _<_}
+use mathlib.Core.Path.{_≡_}
+use mathlib.Core.Logic.{_⊎_, inl, inr, ⊎-elim, _≢_}
+use native.Mathlib.Nat.{eq-or-lt-of-le}
+use native.Mathlib.Decide.{ℕ-discrete}
+use native.Mathlib.Omega.{arith}
+use Rattle.words.specs.Limits.{multiplicityLimit}
+use Rattle.isa.specs.declared.U32TableEntry.{U32TableEntry}
+
+pub record View : Type 0 where
+  pub used : ℕ
+  pub key : ℕ → U32TableEntry
+  pub count : ℕ → ℕ
+
+-- no used place has the key
+abbrev pub Unknown : View → U32TableEntry → Type 0
+Unknown v k = (i : ℕ) → i < v .used → v .key i ≡ k → ⊥
+
+-- ---- what a call does to the places
+
+-- the count at place i becomes c, and nothing else changes
+pub record Changed (a b : View) (i c : ℕ) : Type 0 where
+  pub same-used : b .used ≡ a .used
+  pub keys : (j : ℕ) → j < a .used → b .key j ≡ a .key j
+  pub inside : i < a .used
+  pub count-here : b .count i ≡ c
+  pub count-there : (j : ℕ) → j < a .used → j ≢ i → b .count j ≡ a .count j
+
+-- the key k is appended with the count c
+pub record Appended (a b : View) (k : U32TableEntry) (c : ℕ) : Type 0 where
+  pub more-used : b .used ≡ suc (a .used)
+  pub keys : (j : ℕ) → j < a .used → b .key j ≡ a .key j
+  pub key-new : b .key (a .used) ≡ k
+  pub count-new : b .count (a .used) ≡ c
+  pub count-old : (j : ℕ) → j < a .used → b .count j ≡ a .count j
+
+-- "The first equal key gains one; else the key is appended with 1"
+pub data Recorded (a b : View) (k : U32TableEntry) : Type 0 where
+  gains : (i : ℕ) → a .key i ≡ k → a .count i + 1 ≤ multiplicityLimit → Changed a b i (a .count i + 1) → Recorded a b k
+  appends : Unknown a k → Appended a b k 1 → Recorded a b k
+
+-- ---- what holds at every place
+
+abbrev pub EachPlace : (U32TableEntry → ℕ → Type 0) → View → Type 0
+EachPlace P v = (i : ℕ) → i < v .used → P (v .key i) (v .count i)
+
+pub old-or-new : (n i : ℕ) → i < suc n → (i < n) ⊎ (i ≡ n)
+old-or-new n i h = ⊎-elim (λ (e : suc i ≡ suc n). inr (omega arith)) (λ (l : suc i < suc n). inl (omega arith)) (eq-or-lt-of-le h)
+
+module _ (P : U32TableEntry → ℕ → Type 0) {a b : View} where
+  pub changed-each : {i c : ℕ} → Changed a b i c → EachPlace P a → P (a .key i) c → EachPlace P b
+  changed-each {i} {c} r each here j h = go (ℕ-discrete j i) where
+    inside : j < a .used
+    inside = omega (arith, r .same-used)
+
+    go : Dec (j ≡ i) → P (b .key j) (b .count j)
+    go (yes q) = rw (r .keys j inside, q, r .count-here) here
+    go (no q) = rw (r .keys j inside, r .count-there j inside q) (each j inside)
+
+  pub appended-each : {k : U32TableEntry} {c : ℕ} → Appended a b k c → EachPlace P a → P k c → EachPlace P b
+  appended-each {k} {c} r each new j h =
+      ⊎-elim
+      (λ (o : j < a .used). rw (r .keys j o, r .count-old j o) (each j o))
+      (λ (o : j ≡ a .used). rw (o, r .key-new, r .count-new) new)
+      (old-or-new (a .used) j (omega (arith, r .more-used)))
+
+  pub recorded-each : {k : U32TableEntry} → Recorded a b k → EachPlace P a → ((c : ℕ) → c ≤ multiplicityLimit → P k c) → EachPlace P b
+  recorded-each (gains i q m r) each new = changed-each r each (rw q (new (a .count i + 1) m))
+  recorded-each (appends u r) each new = appended-each r each (new 1 (omega arith))
