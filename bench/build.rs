@@ -4,7 +4,7 @@ use std::env;
 use std::path::PathBuf;
 use std::process::Command;
 
-const NAMES: [&str; 11] = ["record", "compare", "plan", "read", "write", "fill", "pad", "extend", "check", "replay", "client_sum"];
+const NAMES: [&str; 12] = ["record", "compare", "plan", "read", "write", "fill", "pad", "extend", "check", "replay", "client_sum", "batches"];
 
 fn main() {
     println!("cargo::rerun-if-env-changed=EARLIER_LIB");

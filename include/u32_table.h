@@ -51,19 +51,20 @@ __attribute__((used)) static uint64_t (*const u32_table_abi)(void) = u32_table_a
 /* Reasons to decline. */
 enum {
     U32_TABLE_DONE = 0,
-    U32_TABLE_SHAPE = 1,      /* an array has the wrong length, or sizes are out of range */
+    U32_TABLE_SHAPE = 1,      /* an array has the wrong length, or sizes are out of range; in u32_table_batches, also the setting */
     U32_TABLE_STRANGER = 2,   /* an opcode that is none of the six; in u32_table_replay, none of the ten */
     U32_TABLE_WIDE = 3,       /* an operand outside its range; the left one of pow has none but in stored bytes */
     U32_TABLE_BARE_LOG = 4,   /* log_2_floor of 0 */
     U32_TABLE_COUNT_FULL = 5, /* a multiplicity above U32_TABLE_P - 1; in recording, if one more would pass that */
     U32_TABLE_LIST_FULL = 6,  /* a new key and no unused place; in reading, more entries than places */
-    U32_TABLE_SHORT = 7,      /* too few rows or too few output bytes; a filled count above the rows; a check of no rows */
+    U32_TABLE_SHORT = 7,      /* too few rows, output bytes or result places; a filled count above the rows; a check of no rows */
     U32_TABLE_UNREDUCED = 8,  /* a word that is U32_TABLE_P or more */
     U32_TABLE_FLAT = 9,       /* a denominator of (0, 0, 0), of a row with CopyFlag 1 or of a request; see u32_table_extend */
     U32_TABLE_TORN = 10,      /* stored bytes of neither of the two lengths, or more than 2,048 entries in them */
     U32_TABLE_REPEAT = 11,    /* equal keys in stored bytes, or in a list to be written */
     U32_TABLE_TALLY = 12,     /* the stored height is not the sum of the entries' heights */
-    U32_TABLE_ZERO_DIVISOR = 13 /* div_mod by 0, in u32_table_replay */
+    U32_TABLE_ZERO_DIVISOR = 13, /* div_mod by 0, in u32_table_replay */
+    U32_TABLE_JOB_ABOVE = 17  /* a job of more rows than the setting, in u32_table_batches */
 };
 
 /* The six opcodes. */
@@ -99,8 +100,10 @@ enum {
 enum {
     U32_TABLE_MAX_PLACES = 2048,   /* places of a list, at most */
     U32_TABLE_MAX_ROWS = 131072,   /* rows of a table, at most */
+    U32_TABLE_MAX_JOBS = 1048576,  /* jobs of u32_table_batches, at most */
     U32_TABLE_KEY_WORDS = 3,       /* words of a key: opcode, left operand, right operand */
     U32_TABLE_STEP_WORDS = 3,      /* words of a step of a trace: opcode, first value, second value */
+    U32_TABLE_BATCH_WORDS = 3,     /* words of a batch: its jobs, its rows, its padded height */
     U32_TABLE_COLUMNS = 10,        /* words of a row */
     U32_TABLE_AUX_COLUMNS = 3,     /* aux words of a row: the sum so far */
     U32_TABLE_CHALLENGE_WORDS = 15 /* Indeterminate, LhsWeight, RhsWeight, CiWeight, ResultWeight, three words each */
@@ -124,7 +127,8 @@ enum {
     U32_TABLE_FILL_ANSWERS = 1,
     U32_TABLE_EXTEND_ANSWERS = 3,
     U32_TABLE_CHECK_ANSWERS = 7,
-    U32_TABLE_CLIENT_ANSWERS = 3
+    U32_TABLE_CLIENT_ANSWERS = 3,
+    U32_TABLE_BATCHES_ANSWERS = 2
 };
 
 /* A list is `capacity` places, of which the first `used` hold an entry each: three key words a place and one multiplicity a place. So
@@ -251,6 +255,16 @@ uint64_t u32_table_check(const uint64_t *table, size_t table_words, const uint64
  * STRANGER, WIDE, BARE_LOG, FLAT. */
 uint64_t u32_table_client_sum(const uint64_t *requests, size_t request_words, const uint64_t *challenges, size_t challenge_words,
                               uint64_t *answers, size_t answer_words);
+
+/* Tries a batch size. `jobs` are the heights of jobs, in the order in which they come, and `setting` is the largest batch in rows. A job joins the open
+ * batch where the sum of their rows stays within the setting, and else opens the next; the first job opens the first. From the start of `results` each
+ * batch gets three words: its number of jobs, its rows, and its padded height, by the rule of u32_table_plan. Words past the last batch keep their
+ * values. A job of 0 rows is a job as any other. No jobs: no batches.
+ * Answers: the number of batches; the padding, which is all padded heights minus all rows.
+ * Refusals, in this order: SHAPE (the setting is 0 or above 131,072, there are more than 1,048,576 jobs, or result_words is not whole batches);
+ * JOB_ABOVE; SHORT (fewer places in `results` than batches). */
+uint64_t u32_table_batches(const uint64_t *jobs, size_t job_count, uint64_t setting, uint64_t *results, size_t result_words,
+                           uint64_t *answers, size_t answer_words);
 
 #ifdef __cplusplus
 }

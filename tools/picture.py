@@ -23,7 +23,7 @@ KINDS = {
 KIND = {
     "field": "call", "xfield": "call", "isa": "call", "list_record": "call", "list_replay": "call", "list_stored": "call", "check_table": "call", "fill": "call",
     "extend": "call", "client_sum": "call", "transcript": "call", "sums": "theory", "air": "theory", "row_bound": "theory", "four_calls": "theory",
-    "client_law": "theory", "list_round_trips": "theory", "u32list_example": "theory", "u32list": "program", "u32check": "program", "u32_table": "program",
+    "client_law": "theory", "list_round_trips": "theory", "u32list_example": "theory", "u32list": "program", "u32check": "program", "batches": "call", "u32batch": "program", "u32_table": "program",
 }  # fmt: skip
 
 # A room: its name, and its crates with the column of each. Rooms share a column only where one stands above the other.
@@ -37,7 +37,8 @@ ROOMS = {
     "the four calls": {"row_bound": 5, "four_calls": 5},
     "the other side": {"client_sum": 6, "client_law": 6},
     "programs": {"text": 7, "transcript": 7, "numbers": 8, "names": 9, "streams": 10, "u32list_example": 7, "u32list": 10, "table_text": 8, "u32check": 9},
-    "C functions": {"c_answers": 1, "c_lists": 1, "c_tables": 2, "u32_table": 1},
+    "batches": {"batches": 11, "batch_text": 11, "u32batch": 11},
+    "C functions": {"c_answers": 1, "c_lists": 1, "c_batches": 0, "c_tables": 2, "u32_table": 1},
 }  # fmt: skip
 
 

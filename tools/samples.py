@@ -1,5 +1,5 @@
 #!/usr/bin/env python3
-"""Makes samples/: inputs of u32list with the text that is due, and tables for u32check.
+"""Makes samples/: inputs of u32list with the text that is due, tables for u32check, and jobs for u32batch with the text that is due.
 
     tools/samples.py samples
 
@@ -209,6 +209,38 @@ def tables():
     yield "and-0-0-twice", challenges, once + once
 
 
+# ---- jobs, for u32batch
+def batched(settings, jobs):
+    """The table of what each setting gives, each job added to the open batch or to a new one."""
+    lines = [f"jobs {len(jobs)}", "    setting    batches       rows    padding   share"]
+    for setting in settings:
+        if not 1 <= setting <= 131072:
+            lines.append(f"{setting:11}  refused 1: a setting is a number of rows from 1 to 131072")
+        elif max(jobs, default=0) > setting:
+            lines.append(f"{setting:11}  refused 17: a job has more rows than the setting")
+        else:
+            batches = []
+            for job in jobs:
+                if batches and batches[-1] + job <= setting:
+                    batches[-1] += job
+                else:
+                    batches.append(job)
+            padded = sum(max(256, 1 << (rows - 1).bit_length()) for rows in batches)
+            thousandths = 1000 * (padded - sum(jobs)) // padded if padded else 0
+            lines.append(f"{setting:11}{len(batches):11}{sum(jobs):11}{padded - sum(jobs):11}{thousandths // 10:5}.{thousandths % 10}%")
+    return "\n".join(lines) + "\n"
+
+
+def days():
+    """A day's jobs: 400 small ones, some of them long, and the settings to try."""
+    jobs, state = [], 12
+    for hour in range(8):
+        for job in range(50):
+            state = state * 6364136223846793005 % 2**64 + 1442695040888963407
+            jobs.append(20 + (state >> 40) % (1800 if job % 10 == hour else 300))
+    yield "a-day", [500, 1000, 2048, 4096, 8192, 16384, 32768, 65536, 131072], jobs
+
+
 def main():
     folder = pathlib.Path(sys.argv[1])
     (folder / "tables").mkdir(parents=True, exist_ok=True)
@@ -219,6 +251,11 @@ def main():
     for name, longer in ("a-full-list", "a-one-byte-too-many"), ("a-full-list-new-length", "a-one-byte-too-many-new-length"):
         (folder / f"{longer}.bin").write_bytes((folder / f"{name}.bin").read_bytes() + b"\0")
         (folder / f"{longer}.txt").write_text("refused 10\n")
+    (folder / "jobs").mkdir(exist_ok=True)
+    for name, settings, jobs in days():
+        lines = [" ".join(map(str, settings)), *map(str, jobs)]
+        (folder / "jobs" / f"{name}.jobs").write_text("\n".join(lines) + "\n")
+        (folder / "jobs" / f"{name}.txt").write_text(batched(settings, jobs))
     for name, challenges, table in tables():
         lines = [" ".join(map(str, challenges)), str(len(table)), *(" ".join(map(str, r)) for r in table)]
         (folder / "tables" / f"{name}.table").write_text("\n".join(lines) + "\n")

@@ -369,6 +369,7 @@ impl Inputs {
         self.record("record, as many keys with one LHS, a hash map", &one_lhs, runs);
         self.replay(runs);
         self.client(runs);
+        batches(runs);
     }
 
     /// The time of our check of a table that passes or not.
@@ -520,5 +521,40 @@ impl Inputs {
         let [read] = best(runs, [&mut || assert_eq!(n, port::read(&bytes, &mut fresh))]);
         let ms = [fill, pad, extend, check, read, write].map(|seconds| format!("{:.3}", seconds * 1e3)).join(" | ");
         println!("| {rows} | {n} | {height} | {ms} | {:.0}", check * 1e9 / rows as f64);
+    }
+}
+
+/// The most jobs that are taken, of up to 299 rows each, against one pass over them by hand, which judges nothing first.
+fn batches(runs: usize) {
+    const JOBS: usize = 1 << 20;
+    let mut random = Random(12);
+    let jobs: Vec<u64> = (0..JOBS).map(|_| random.word() % 300).collect();
+    let [mut listed, mut written] = [vec![0; 3 * JOBS], vec![0; 3 * JOBS]];
+    for setting in [300, 4096, 131072] {
+        let [mut answered, mut counted] = [[0; 2]; 2];
+        let [ours, theirs] = best(
+            runs,
+            [&mut || answered = port::batches(&jobs, setting, &mut listed), &mut || {
+                counted = [0; 2];
+                let mut open = [0; 2];
+                let mut put = |[members, rows]: [u64; 2], counted: &mut [u64; 2]| {
+                    let padded = rows.max(256).next_power_of_two();
+                    let place = 3 * counted[0] as usize;
+                    written[place..place + 3].copy_from_slice(&[members, rows, padded]);
+                    *counted = [counted[0] + 1, counted[1] + padded - rows];
+                };
+                for &height in &jobs {
+                    if open[0] > 0 && open[1] + height > setting {
+                        put(open, &mut counted);
+                        open = [0; 2];
+                    }
+                    open = [open[0] + 1, open[1] + height];
+                }
+                put(open, &mut counted);
+            }],
+        );
+        assert_eq!(answered, counted);
+        assert!(listed[..3 * answered[0] as usize] == written[..3 * answered[0] as usize]);
+        line(&format!("batches, 1,048,576 jobs, setting {setting}, one pass by hand"), ours, theirs, None);
     }
 }

@@ -237,3 +237,12 @@ pub fn inverses(words: &[u64], out: &mut [u64]) {
 pub fn ext_inverses(words: &[u64], out: &mut [u64]) {
     done(unsafe { probes::probe_ext_inverses(words.as_ptr(), words.len(), out.as_mut_ptr(), out.len()) });
 }
+
+/// The number of batches and the padding.
+pub fn batches(jobs: &[u64], setting: u64, results: &mut [u64]) -> [u64; 2] {
+    let mut answers = [0; 2];
+    done(unsafe {
+        c::u32_table_batches(jobs.as_ptr(), jobs.len(), setting, results.as_mut_ptr(), results.len(), answers.as_mut_ptr(), 2)
+    });
+    answers
+}

@@ -349,9 +349,43 @@ static void sums(void) {
 }
 
 /* a pointer to no elements may be NULL */
+/* ---- batches */
+static uint64_t results[9];
+static uint64_t batches(const uint64_t *jobs, size_t n, uint64_t setting, size_t words) {
+    for (int i = 0; i < 9; i++) results[i] = MARK;
+    return u32_table_batches(jobs, n, setting, results, words, answers, WORDS);
+}
+static void listed(const char *what, const uint64_t *wanted) { expect(what, (uint64_t)memcmp(results, wanted, sizeof results), 0); }
+#define LISTED(...) listed("results", (uint64_t[9]){__VA_ARGS__})
+#define KEPT() LISTED(MARK, MARK, MARK, MARK, MARK, MARK, MARK, MARK, MARK)
+
+static void batch_sizes(void) {
+    const uint64_t threes[] = {3, 3, 3}, full[] = {5, 0, 0, 5}, large[] = {U32_TABLE_MAX_ROWS, 1}, most[] = {UINT64_MAX, UINT64_MAX};
+    DONE(batches(threes, 3, 6, 9), 2, 2, 503);
+    LISTED(2, 6, 256, 1, 3, 256, MARK, MARK, MARK);
+    DONE(batches(threes, 3, 9, 3), 2, 1, 247);
+    LISTED(3, 9, 256, MARK, MARK, MARK, MARK, MARK, MARK);
+    DONE(batches(full, 4, 5, 9), 2, 2, 502);
+    LISTED(3, 5, 256, 1, 5, 256, MARK, MARK, MARK);
+    DONE(batches(large, 2, U32_TABLE_MAX_ROWS, 9), 2, 2, 255);
+    LISTED(1, U32_TABLE_MAX_ROWS, U32_TABLE_MAX_ROWS, 1, 1, 256, MARK, MARK, MARK);
+    DONE(batches(threes, 0, 1, 0), 2, 0, 0);
+    KEPT();
+    REFUSED(batches(threes, 3, 0, 9), U32_TABLE_SHAPE);
+    REFUSED(batches(threes, 3, U32_TABLE_MAX_ROWS + 1, 9), U32_TABLE_SHAPE);
+    REFUSED(batches(most, 2, UINT64_MAX, 9), U32_TABLE_SHAPE);
+    REFUSED(batches(most, 2, 6, 8), U32_TABLE_SHAPE);
+    REFUSED(batches(most, 2, 6, 0), U32_TABLE_JOB_ABOVE);
+    REFUSED(batches(threes, 3, 2, 9), U32_TABLE_JOB_ABOVE);
+    REFUSED(batches(threes, 3, 6, 3), U32_TABLE_SHORT);
+    REFUSED(u32_table_batches(most, 2, 6, results, 0, answers, 1), U32_TABLE_SHAPE);
+    KEPT();
+}
+
 static void no_arrays(void) {
     REFUSED(u32_table_client_sum(NULL, 0, NULL, 0, answers, WORDS), U32_TABLE_SHAPE);
     REFUSED(u32_table_client_sum(NULL, 0, NULL, 0, NULL, 0), U32_TABLE_SHAPE);
+    DONE(u32_table_batches(NULL, 0, 1, NULL, 0, answers, WORDS), 2, 0, 0);
     DONE(u32_table_plan(0, 0, NULL, 0, NULL, 0, answers, WORDS), 2, 0, 256);
     REFUSED(u32_table_record(0, 0, NULL, 0, NULL, 0, U32_TABLE_AND, 3, 1, answers, WORDS), U32_TABLE_LIST_FULL);
     REFUSED(u32_table_read(NULL, 0, 0, 0, NULL, 0, NULL, 0, answers, WORDS), U32_TABLE_TORN);
@@ -381,6 +415,7 @@ int main(void) {
     lists();
     tables();
     sums();
+    batch_sizes();
     no_arrays();
     printf("%u comparisons, %u failed\n", tried, failed);
     return failed != 0;

@@ -69,6 +69,13 @@ static size_t taken(void (*call)(void)) {
     return STACK - untouched;
 }
 
+/* jobs of every height from 0 on, gathered into batches of a table's most rows */
+static void batches(void) {
+    for (uint64_t i = 0; i < 3 * PLACES / 2; i++) trace[i] = i;
+    number = u32_table_batches(trace, 3 * PLACES / 2, U32_TABLE_MAX_ROWS, replayed, 3 * PLACES, answers, 8);
+    if (replayed[2] != U32_TABLE_MAX_ROWS) number = 99;
+}
+
 int main(void) {
     /* at most so many bytes, as the header says */
     static const struct {
@@ -76,7 +83,7 @@ int main(void) {
         void (*call)(void);
         size_t most;
     } calls[] = {{"record", record, 2000}, {"replay", replay, 2000}, {"compare", compare, 2000}, {"plan", plan, 2000}, {"write", write, 52000}, {"read", read, 120000},
-                 {"read, old length", read_old, 120000}, {"fill", fill, 12000}, {"pad", pad, 2000}, {"extend", extend, 2000}, {"check", check, 2000}, {"client_sum", client_sum, 2000}};
+                 {"read, old length", read_old, 120000}, {"fill", fill, 12000}, {"pad", pad, 2000}, {"extend", extend, 2000}, {"check", check, 2000}, {"client_sum", client_sum, 2000}, {"batches", batches, 2000}};
     int failed = 0;
     for (int i = 0; i < 15; i++) challenges[i] = (uint64_t)(1000 + 77 * i);
     size_t thread = taken(nothing);

@@ -13,7 +13,7 @@ import json
 import sys
 
 MARK = 7777
-STATED = {"record": 2, "replay": 2, "compare": 1, "plan": 2, "read": 1, "write": 1, "fill": 1, "pad": 0, "extend": 3, "check": 7, "client_sum": 3}
+STATED = {"record": 2, "replay": 2, "compare": 1, "plan": 2, "read": 1, "write": 1, "fill": 1, "pad": 0, "extend": 3, "check": 7, "client_sum": 3, "batches": 2}
 # the arguments in order: numbers by name, arrays in brackets
 ARGUMENTS = {
     "record": "capacity used [keys] [mults] entry",
@@ -27,6 +27,7 @@ ARGUMENTS = {
     "extend": "[table] [aux] [challenges]",
     "check": "[table] [aux] [challenges]",
     "client_sum": "[requests] [challenges]",
+    "batches": "[jobs] setting [results]",
 }
 
 

@@ -33,7 +33,7 @@
 //!
 //! [`client_sum`] is the other end of the lookup: the processor's sum over its requests, which equals the last sum of the table made of them.
 //!
-//! The eleven calls stand here too as functions over slices, for arrays that a program has already.
+//! The eleven calls stand here too as functions over slices, for arrays that a program has already; and [`batches`], which tries a batch size.
 //!
 //! # Words and elements
 //!
@@ -57,6 +57,7 @@
 #![deny(unsafe_code)]
 #![warn(rust_2018_idioms)]
 
+mod batches;
 mod calls;
 mod constraints;
 mod list;
@@ -65,6 +66,7 @@ mod refusal;
 mod sys;
 mod table;
 
+pub use batches::{batches, Batch, Batched, Batches};
 pub use calls::{check, client_sum, compare, extend, fill, pad, plan, read, record, refused_entry, replay, write};
 pub use calls::{Entry, Group, Plan, Sizes, Stopped, Verdict};
 pub use list::List;
@@ -86,6 +88,12 @@ pub const KEY_WORDS: usize = 3;
 
 /// Words of a step of a trace: opcode, first value, second value.
 pub const STEP_WORDS: usize = 3;
+
+/// [`batches`] takes at most this many jobs.
+pub const MAX_JOBS: usize = 1048576;
+
+/// Words of a batch among the results of [`batches`]: its jobs, its rows, its padded height.
+pub const BATCH_WORDS: usize = 3;
 
 /// Words of a row.
 pub const COLUMNS: usize = 10;

@@ -36,7 +36,7 @@ macro_rules! refusals {
             /// ```
             /// use u32_table::Refusal;
             /// assert_eq!(Refusal::from_number(10), Some(Refusal::Torn));
-            /// assert_eq!(Refusal::from_number(17), Some(Refusal::Other(17)));
+            /// assert_eq!(Refusal::from_number(99), Some(Refusal::Other(99)));
             /// assert_eq!(Refusal::from_number(0), None);
             /// ```
             pub fn from_number(number: u64) -> Option<Refusal> {
@@ -62,7 +62,8 @@ refusals! {
     /// An array has the wrong length, or the sizes are out of range: keys are three words a place, multiplicities one a place, used
     /// is at most the capacity and that at most [`MAX_PLACES`](crate::MAX_PLACES); a table is whole rows, at most
     /// [`MAX_ROWS`](crate::MAX_ROWS); aux is three words a row; challenges are fifteen words; a trace is three words a step, and
-    /// requests are three words each.
+    /// requests are three words each; in
+    /// [`batches`](crate::batches) the setting is from 1 to [`MAX_ROWS`](crate::MAX_ROWS), and jobs are at most [`MAX_JOBS`](crate::MAX_JOBS).
     1 Shape "shape",
     /// An opcode that is none of the six; in [`replay`](crate::replay), none of the ten.
     2 Stranger "stranger",
@@ -74,7 +75,7 @@ refusals! {
     5 CountFull "count full",
     /// A new key and no unused place; in reading, more entries than places.
     6 ListFull "list full",
-    /// A table below the height, a filled count above the rows, a check of no rows, or too few output bytes.
+    /// A table below the height, a filled count above the rows, a check of no rows, too few output bytes, or fewer result places than batches.
     7 Short "short",
     /// A word that is [`P`](crate::P) or more.
     8 Unreduced "unreduced",
@@ -89,6 +90,8 @@ refusals! {
     12 Tally "tally",
     /// div_mod by 0, in [`replay`](crate::replay).
     13 ZeroDivisor "zero divisor",
+    /// A job of more rows than the setting, in [`batches`](crate::batches).
+    17 JobAbove "job above",
 }
 
 /// As in `refused 10 (torn)`.
@@ -107,7 +110,7 @@ pub(crate) fn done(number: u64) -> Result<(), Refusal> {
 
 #[test]
 fn a_number_without_a_name_is_kept() {
-    assert_eq!(done(17), Err(Refusal::Other(17)));
-    assert_eq!(Refusal::Other(17).number(), 17);
-    assert_eq!(Refusal::Other(17).to_string(), "refused 17 (without a name)");
+    assert_eq!(done(99), Err(Refusal::Other(99)));
+    assert_eq!(Refusal::Other(99).number(), 99);
+    assert_eq!(Refusal::Other(99).to_string(), "refused 99 (without a name)");
 }

@@ -184,3 +184,17 @@ pub fn client_sum(requests: &[u64], challenges: &[u64], answers: &mut [u64; 3]) 
         )
     }
 }
+
+pub fn batches(jobs: &[u64], setting: u64, results: &mut [u64], answers: &mut [u64; 2]) -> u64 {
+    unsafe {
+        c::u32_table_batches(
+            jobs.as_ptr(),
+            jobs.len(),
+            setting,
+            results.as_mut_ptr(),
+            results.len(),
+            answers.as_mut_ptr(),
+            answers.len(),
+        )
+    }
+}

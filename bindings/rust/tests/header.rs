@@ -3,7 +3,8 @@ use std::collections::{BTreeMap, BTreeSet};
 use std::fs;
 use std::path::Path;
 use u32_table::{
-    column, steps, Opcode, Refusal, AUX_COLUMNS, CHALLENGE_WORDS, COLUMNS, KEY_WORDS, MAX_PLACES, MAX_ROWS, P, STEP_WORDS,
+    column, steps, Opcode, Refusal, AUX_COLUMNS, BATCH_WORDS, CHALLENGE_WORDS, COLUMNS, KEY_WORDS, MAX_JOBS, MAX_PLACES,
+    MAX_ROWS, P, STEP_WORDS,
 };
 
 fn file(path: &str) -> String {
@@ -50,6 +51,8 @@ fn numbers_are_those_of_the_header() {
         ("LOOKUP_MULTIPLICITY", column::LOOKUP_MULTIPLICITY),
         ("MAX_PLACES", MAX_PLACES),
         ("MAX_ROWS", MAX_ROWS),
+        ("MAX_JOBS", MAX_JOBS),
+        ("BATCH_WORDS", BATCH_WORDS),
         ("KEY_WORDS", KEY_WORDS),
         ("STEP_WORDS", STEP_WORDS),
         ("COLUMNS", COLUMNS),
@@ -108,5 +111,5 @@ fn declarations_are_those_of_the_header() {
     let declared = file("bindings/rust/sys/src/lib.rs");
     let declared = signatures(declared.split("extern \"C\"").next().unwrap(), " fn ", in_rust);
     assert_eq!(header, declared);
-    assert_eq!(header.len(), 11);
+    assert_eq!(header.len(), 12);
 }

@@ -1,10 +1,11 @@
 -- Printed text, in ASCII: words, numbers in decimal, lines of fields (document 01, "Recording and stored lists", what `u32list` prints).
-use Prim.Native.Nat.{ℕ, zero, suc, _+_, _/_, _%_}
+use Prim.Native.Nat.{ℕ, zero, suc, _+_, _-_, _/_, _%_}
 use Prim.Native.Char.{code}
 use Prim.Native.String.{String, [] as []ˢ, _∷_ as _∷ˢ_}
 use mathlib.Core.Bool.{cond}
 use mathlib.Core.List.{List, [], _∷_, _++_, map}
 use lib.Dec.{ltb}
+use lib.ListN.{length, replicate}
 
 -- the codes of a text's characters
 abbrev pub ascii : String → List ℕ
@@ -65,3 +66,12 @@ malformedLine number = line (ascii "malformed" ∷ ascii "line" ∷ decimal numb
 unfoldable pub tooManyLine : (rows most : ℕ) → List ℕ
 tooManyLine rows most =
     line (ascii "too" ∷ ascii "many" ∷ ascii "rows:" ∷ (decimal rows ++ ascii ",") ∷ ascii "at" ∷ ascii "most" ∷ decimal most ∷ [])
+
+-- ---- what `u32batch` prints besides
+-- so many spaces
+unfoldable pub spaces : ℕ → List ℕ
+spaces n = replicate n 32
+
+-- a number at the right end of a column of this width; one that is wider is not cut
+unfoldable pub column : (width n : ℕ) → List ℕ
+column width n = spaces (width - length (decimal n)) ++ decimal n

@@ -1,14 +1,14 @@
 // Text is put into a lent buffer from a place on. Each function answers the place after what it put, and requires that the buffer has
 // room for it.
-ghost use Prim.Native.Nat.{_+_, _≤_, _<_};
+ghost use Prim.Native.Nat.{_+_, _-_, _≤_, _<_};
 ghost use mathlib.Core.List.{[], _∷_, _++_, map};
 ghost use lib.ListN.{length};
 ghost use Rattle.text.specs.Lines.{decimal, lineRest, headLine, rowLine, sumLine, verdictLine, refusedLine};
-ghost use Rattle.text.specs.Lines.{fieldLine, malformedLine, tooManyLine};
+ghost use Rattle.text.specs.Lines.{fieldLine, malformedLine, tooManyLine, spaces, column};
 ghost use Rattle.text.specs.Put.{Put};
 
 // Puts these bytes.
-fn put_bytes(out: &mut [u8], at: usize, bytes: &[u8]) -> usize
+pub fn put_bytes(out: &mut [u8], at: usize, bytes: &[u8]) -> usize
     requires { ⌜ at + length (now bytes) ≤ length (now out) ⌝ }
     ensures { λ r. ⌜ Put (now (out .entry)) at (now (bytes .entry)) (now (out .exit)) r ⌝ }
 {
@@ -145,4 +145,30 @@ pub fn put_too_many(out: &mut [u8], at: usize, rows: u64, most: u64) -> usize
     let next = put_labelled(out, at, b"too many rows: ", rows);
     let after_rows = put_bytes(out, next, b", at most");
     put_rest(out, after_rows, &[most])
+}
+
+// Puts as many spaces as `from` lacks to `to`.
+fn put_spaces(out: &mut [u8], at: usize, from: usize, to: usize) -> usize
+    requires { ⌜ at + length (spaces (to - from)) ≤ length (now out) ⌝ }
+    ensures { λ r. ⌜ Put (now (out .entry)) at (spaces (to - from)) (now (out .exit)) r ⌝ }
+{
+    let mut next = at;
+    let mut i = from;
+    while i < to {
+        out[next] = b' ';
+        next += 1;
+        i += 1;
+    }
+    next
+}
+
+// Puts a number at the right end of a column of this width.
+pub fn put_column(out: &mut [u8], at: usize, width: usize, n: u64) -> usize
+    requires { ⌜ at + length (column width n) ≤ length (now out) ⌝ }
+    ensures { λ r. ⌜ Put (now (out .entry)) at (column width n) (now (out .exit)) r ⌝ }
+{
+    let mut digits = [0u8; 20];
+    let k = io::decimal(n, &mut digits);
+    let next = put_spaces(out, at, k, width);
+    put_bytes(out, next, &digits[..k])
 }

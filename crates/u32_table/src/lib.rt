@@ -7,6 +7,7 @@ ghost use Rattle.isa.specs.Entries.{entry};
 ghost use Rattle.list_record.specs.Plan.{planAll};
 ghost use Rattle.list_record.specs.Recording.{recordAll};
 ghost use Rattle.list_replay.specs.Replay.{replayAll};
+ghost use Rattle.batches.specs.Batches.{batchAll};
 ghost use Rattle.list_stored.specs.Stored.{readAll, writeAll};
 ghost use Rattle.c_answers.specs.Exports.{lentList, lentDue, Exported, Reported};
 ghost use Rattle.c_lists.specs.ListAnswers.{withUsed, compareAll};
@@ -207,4 +208,18 @@ pub extern "C" fn u32_table_client_sum(
     ensures { λ r. ⌜ ClientAnswers (now (requests .entry)) (now (challenges .entry)) (now (answers .entry)) r (now (answers .exit)) ⌝ }
 {
     c_tables::client_sum(requests, challenges, answers)
+}
+
+// Answers: the number of batches and the padding.
+#[no_mangle]
+pub extern "C" fn u32_table_batches(
+    jobs: &[u64],
+    setting: u64,
+    results: &mut [u64],
+    answers: &mut [u64],
+) -> u64
+    ensures answers { λ r. ⌜ Exported 2 (batchAll (now (jobs .entry)) setting (now (results .entry)) .answer) (now (answers .entry)) r (now (answers .exit)) ⌝ }
+    ensures results { λ _. ⌜ now (results .exit) ≡ lentDue 2 (now (answers .entry)) (now (results .entry)) (batchAll (now (jobs .entry)) setting (now (results .entry)) .left) ⌝ }
+{
+    c_batches::batches(jobs, setting, results, answers)
 }

@@ -13,6 +13,10 @@ maxRows = 131072
 abbrev pub multiplicityLimit : ℕ
 multiplicityLimit = 18446744069414584320
 
+-- "more than 1,048,576 jobs" is a wrong shape
+abbrev pub maxJobs : ℕ
+maxJobs = 1048576
+
 -- "the byte lookup always has 256 rows": no padded height is below it
 abbrev pub minPaddedHeight : ℕ
 minPaddedHeight = 256

@@ -12,6 +12,9 @@ pub const MAX_PLACES: usize = 2048;
 // A table has at most this many rows.
 pub const MAX_ROWS: usize = 131072;
 
+// A list of jobs has at most this many.
+pub const MAX_JOBS: usize = 1048576;
+
 // The byte lookup's rows: no padded height is below it.
 pub const MIN_PADDED_HEIGHT: u64 = 256;
 
@@ -33,6 +36,7 @@ pub enum Refusal {
     Repeat,
     Tally,
     ZeroDivisor,
+    JobAbove,
 }
 
 impl Refusal {
@@ -54,6 +58,7 @@ impl Refusal {
             Refusal::Repeat => 11,
             Refusal::Tally => 12,
             Refusal::ZeroDivisor => 13,
+            Refusal::JobAbove => 17,
         }
     }
 }

@@ -124,6 +124,15 @@ macro_rules! functions {
                 answers: *mut u64,
                 answer_words: usize,
             );
+            fn u32_table_batches(
+                jobs: *const u64,
+                job_count: usize,
+                setting: u64,
+                results: *mut u64,
+                result_words: usize,
+                answers: *mut u64,
+                answer_words: usize,
+            );
         }
     };
 }
