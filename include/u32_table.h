@@ -1,4 +1,5 @@
-/* The U32 table of Triton VM, proved: record, replay, compare, plan, read, write, fill, pad, extend, check, client_sum.
+/* The U32 table of Triton VM, proved: record, replay, compare, plan, read, write, fill, pad, extend, check, client_sum; and of the
+ * lookup tables beside it: look_up, byte_lookup, cascade_lookup, byte_sum, cascade_sum.
  *
  * The functions stand in crates/u32_table. `rt staticlib u32_table` proves them and writes target/staticlib/libu32_table.a for x86-64 Linux:
  *
@@ -10,7 +11,7 @@
  *
  * Stack. u32_table_read takes up to 120 KB of it (a KB is 1,000 bytes), u32_table_write 52 KB, u32_table_fill 12 KB, each of the others 2 KB.
  *
- * Arrays. Each is a pointer and the number of its elements (words of 64 bits, or bytes). The caller sees to what the proof takes for
+ * Arrays. Each is a pointer and the number of its elements (words of 64 bits, keys of 16 bits, or bytes). The caller sees to what the proof takes for
  * granted: a pointer is aligned, that many elements are there, and no array that a call may write overlaps another array of the same call. A
  * pointer to 0 elements may be NULL: nothing is read or written there. Nothing else is asked of any argument: every number and every content
  * is answered.
@@ -64,6 +65,7 @@ enum {
     U32_TABLE_REPEAT = 11,    /* equal keys in stored bytes, or in a list to be written */
     U32_TABLE_TALLY = 12,     /* the stored height is not the sum of the entries' heights */
     U32_TABLE_ZERO_DIVISOR = 13, /* div_mod by 0, in u32_table_replay */
+    U32_TABLE_CASCADE_FULL = 14, /* a new value and no unused cascade place, in u32_table_look_up */
     U32_TABLE_JOB_ABOVE = 17  /* a job of more rows than the setting, in u32_table_batches */
 };
 
@@ -106,7 +108,10 @@ enum {
     U32_TABLE_BATCH_WORDS = 3,     /* words of a batch: its jobs, its rows, its padded height */
     U32_TABLE_COLUMNS = 10,        /* words of a row */
     U32_TABLE_AUX_COLUMNS = 3,     /* aux words of a row: the sum so far */
-    U32_TABLE_CHALLENGE_WORDS = 15 /* Indeterminate, LhsWeight, RhsWeight, CiWeight, ResultWeight, three words each */
+    U32_TABLE_CHALLENGE_WORDS = 15, /* Indeterminate, LhsWeight, RhsWeight, CiWeight, ResultWeight, three words each */
+    U32_TABLE_MAX_CASCADE_PLACES = 65536, /* places of a cascade, at most */
+    U32_TABLE_BYTE_ROWS = 256,     /* byte multiplicities: one a byte */
+    U32_TABLE_LOOKUP_CHALLENGE_WORDS = 9 /* InputWeight, OutputWeight, Indeterminate, three words each */
 };
 
 /* The number of elements of the base field, 2^64 - 2^32 + 1. */
@@ -128,7 +133,12 @@ enum {
     U32_TABLE_EXTEND_ANSWERS = 3,
     U32_TABLE_CHECK_ANSWERS = 7,
     U32_TABLE_CLIENT_ANSWERS = 3,
-    U32_TABLE_BATCHES_ANSWERS = 2
+    U32_TABLE_BATCHES_ANSWERS = 2,
+    U32_TABLE_LOOK_UP_ANSWERS = 1,
+    U32_TABLE_BYTE_LOOKUP_ANSWERS = 1,
+    U32_TABLE_CASCADE_LOOKUP_ANSWERS = 1,
+    U32_TABLE_BYTE_SUM_ANSWERS = 3,
+    U32_TABLE_CASCADE_SUM_ANSWERS = 3
 };
 
 /* A list is `capacity` places, of which the first `used` hold an entry each: three key words a place and one multiplicity a place. So
@@ -255,6 +265,47 @@ uint64_t u32_table_check(const uint64_t *table, size_t table_words, const uint64
  * STRANGER, WIDE, BARE_LOG, FLAT. */
 uint64_t u32_table_client_sum(const uint64_t *requests, size_t request_words, const uint64_t *challenges, size_t challenge_words,
                               uint64_t *answers, size_t answer_words);
+
+/* The lookup tables. The byte lookup takes byte i to (i + 1)^3 - 1 modulo 257; the cascade takes 256 h + l to 256 S(h) + S(l), S being the byte
+ * lookup. A cascade is `capacity` places, of which the first `used` hold a 16-bit value each: one key and one multiplicity a place. So key_count and
+ * `places` have to be `capacity`; used is at most capacity, and capacity at most 65,536. Beside it stand the 256 multiplicities of the bytes. Anything
+ * else is U32_TABLE_SHAPE. Fresh tables have `used` 0 and byte multiplicities 0. */
+
+/* Records a 16-bit value: the first equal key's multiplicity gains one; else the value is appended with multiplicity 1, and the multiplicities of its
+ * two bytes gain one each, which is two where the bytes are equal.
+ * Answers: the places used afterwards, which is what to pass as `used` from then on.
+ * Refusals, in this order: SHAPE; COUNT_FULL, for any multiplicity that would be raised past U32_TABLE_P - 1, which of a known value is its own alone;
+ * CASCADE_FULL. */
+uint64_t u32_table_look_up(size_t capacity, size_t used, uint16_t *keys, size_t key_count, uint64_t *multiplicities, size_t places,
+                           uint64_t *byte_multiplicities, size_t byte_count, uint16_t value, uint64_t *answers, size_t answer_words);
+
+/* The output of a byte.
+ * Answers: the output.
+ * Refusals: SHAPE, for `answers` alone. */
+uint64_t u32_table_byte_lookup(uint8_t byte, uint64_t *answers, size_t answer_words);
+
+/* The output of a 16-bit value.
+ * Answers: the output.
+ * Refusals: SHAPE, for `answers` alone. */
+uint64_t u32_table_cascade_lookup(uint16_t value, uint64_t *answers, size_t answer_words);
+
+/* The running sum of the byte lookup: the three aux words of each byte, from 0 up, become the sum so far of multiplicity divided by denominator, also
+ * where the multiplicity is 0. The denominator is Indeterminate minus InputWeight input + OutputWeight output; the challenges are InputWeight,
+ * OutputWeight and Indeterminate, in this order: the indeterminate comes last.
+ * Answers: the three words of the last sum.
+ * Refusals, in this order: SHAPE (byte_count is not 256, challenge_words not 9, or aux_words not 768); UNREDUCED (challenges or multiplicities); FLAT: a
+ * denominator is (0, 0, 0), and nothing else. */
+uint64_t u32_table_byte_sum(const uint64_t *byte_multiplicities, size_t byte_count, const uint64_t *challenges, size_t challenge_words, uint64_t *aux,
+                            size_t aux_words, uint64_t *answers, size_t answer_words);
+
+/* The running sum of a cascade: the same over its used places, in order. `aux` has three words a place, used or not; unused places are not looked at,
+ * and their aux words stay.
+ * Answers: the three words of the last sum, zero for no used place.
+ * Refusals, in this order: SHAPE (of the cascade, challenge_words is not 9, or aux_words not 3 * capacity); UNREDUCED (challenges, or multiplicities of
+ * used places); FLAT, as for u32_table_byte_sum. */
+uint64_t u32_table_cascade_sum(size_t capacity, size_t used, const uint16_t *keys, size_t key_count, const uint64_t *multiplicities, size_t places,
+                               const uint64_t *challenges, size_t challenge_words, uint64_t *aux, size_t aux_words, uint64_t *answers,
+                               size_t answer_words);
 
 /* Tries a batch size. `jobs` are the heights of jobs, in the order in which they come, and `setting` is the largest batch in rows. A job joins the open
  * batch where the sum of their rows stays within the setting, and else opens the next; the first job opens the first. From the start of `results` each

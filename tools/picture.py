@@ -22,23 +22,25 @@ KINDS = {
 }
 KIND = {
     "field": "call", "xfield": "call", "isa": "call", "list_record": "call", "list_replay": "call", "list_stored": "call", "check_table": "call", "fill": "call",
-    "extend": "call", "client_sum": "call", "transcript": "call", "sums": "theory", "air": "theory", "row_bound": "theory", "four_calls": "theory",
-    "client_law": "theory", "list_round_trips": "theory", "u32list_example": "theory", "u32list": "program", "u32check": "program", "batches": "call", "u32batch": "program", "u32_table": "program",
+    "extend": "call", "client_sum": "call", "lookup": "call", "lookup_sums": "call", "transcript": "call", "sums": "theory", "air": "theory",
+    "row_bound": "theory", "four_calls": "theory", "client_law": "theory", "list_round_trips": "theory", "u32list_example": "theory",
+    "u32list": "program", "u32check": "program", "batches": "call", "u32batch": "program", "u32_table": "program",
 }  # fmt: skip
 
 # A room: its name, and its crates with the column of each. Rooms share a column only where one stands above the other.
 ROOMS = {
     "words, entries": {"words": 1, "isa": 1},
-    "elements": {"field": 3, "xfield": 3},
+    "elements": {"field": 4, "xfield": 4},
     "lists": {"list": 1, "list_record": 0, "list_replay": 0, "list_bytes": 1, "list_repeats": 2, "list_stored": 1, "list_round_trips": 1},
-    "table": {"table": 3, "sums": 3},
-    "check": {"air": 3, "check_rows": 3, "check_plain": 4, "check_pairs": 3, "check_search": 3, "check_table": 3},
-    "filling": {"fill_results": 5, "fill_sections": 5, "fill": 5, "extend": 5},
-    "the four calls": {"row_bound": 5, "four_calls": 5},
-    "the other side": {"client_sum": 6, "client_law": 6},
-    "programs": {"text": 7, "transcript": 7, "numbers": 8, "names": 9, "streams": 10, "u32list_example": 7, "u32list": 10, "table_text": 8, "u32check": 9},
-    "batches": {"batches": 11, "batch_text": 11, "u32batch": 11},
-    "C functions": {"c_answers": 1, "c_lists": 1, "c_batches": 0, "c_tables": 2, "u32_table": 1},
+    "table": {"table": 4, "sums": 4},
+    "check": {"air": 4, "check_rows": 4, "check_plain": 5, "check_pairs": 4, "check_search": 4, "check_table": 4},
+    "filling": {"fill_results": 6, "fill_sections": 6, "fill": 6, "extend": 6},
+    "the four calls": {"row_bound": 6, "four_calls": 6},
+    "the other side": {"client_sum": 7, "client_law": 7},
+    "programs": {"text": 8, "transcript": 8, "numbers": 9, "names": 10, "streams": 11, "u32list_example": 8, "u32list": 11, "table_text": 9, "u32check": 10},
+    "lookup tables": {"lookup": 12, "lookup_sums": 12},
+    "batches": {"batches": 13, "batch_text": 13, "u32batch": 13},
+    "C functions": {"c_answers": 1, "c_lists": 1, "c_batches": 0, "c_tables": 2, "c_lookups": 3, "u32_table": 1},
 }  # fmt: skip
 
 

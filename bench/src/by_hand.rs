@@ -250,3 +250,25 @@ pub fn client_sum(requests: &[[u64; 3]], weights: &Weights) -> X {
     };
     requests.iter().map(inverse).fold(X::new([b(0); 3]), |sum, inverse| sum + inverse)
 }
+
+/// The running sum of a lookup table over input, output and multiplicity, with the judging that our contract demands.
+pub fn lookup_sum(n: usize, summand: impl Fn(usize) -> (u64, u64, u64), challenges: &[u64], sums: &mut [X]) -> bool {
+    let [input_weight, output_weight, indeterminate] =
+        [0, 3, 6].map(|i| X::new([i, i + 1, i + 2].map(|word| b(challenges[word]))));
+    let denominator = |input, output| indeterminate - (input_weight * b(input) + output_weight * b(output));
+    let nothing = X::new([b(0); 3]);
+    let is_wrong = |i| {
+        let (input, output, multiplicity) = summand(i);
+        multiplicity >= B::P || denominator(input, output) == nothing
+    };
+    if challenges.iter().any(|&word| word >= B::P) || (0..n).any(is_wrong) {
+        return false;
+    }
+    let mut sum = nothing;
+    for (i, so_far) in sums[..n].iter_mut().enumerate() {
+        let (input, output, multiplicity) = summand(i);
+        sum += b(multiplicity) * ext_inverse(denominator(input, output));
+        *so_far = sum;
+    }
+    true
+}

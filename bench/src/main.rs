@@ -369,6 +369,7 @@ impl Inputs {
         self.record("record, as many keys with one LHS, a hash map", &one_lhs, runs);
         self.replay(runs);
         self.client(runs);
+        self.lookups(runs);
         batches(runs);
     }
 
@@ -491,6 +492,70 @@ impl Inputs {
         );
         line("client_sum, 131,072 requests, Rust by hand that judges nothing", ours, theirs, None);
         println!("client_sum: {:.0} ns a request", ours * 1e9 / requests.len() as f64);
+    }
+
+    /// A full cascade: all 65,536 values, and 64 of them again, looked up one after the other, by our call and in the original's hash map; then both sums,
+    /// beside Rust by hand that judges words and denominators first.
+    fn lookups(&self, runs: usize) {
+        const PLACES: usize = 65536;
+        let values: Vec<u16> = (0..820 * 80u32).map(|i| (40503 * i) as u16).collect();
+        let element = |limbs: &[u16]| B::new(limbs.iter().rev().fold(0, |word, &limb| word << 16 | limb as u64));
+        let elements: Vec<[B; reach::LOOKED_UP]> =
+            values.chunks_exact(80).map(|limbs| std::array::from_fn(|i| element(&limbs[4 * i..4 * i + 4]))).collect();
+        let mut tables = port::Lookups::new(PLACES);
+        let mut their_bytes = [0; 256];
+        let [ours, theirs] = best(
+            runs.min(9),
+            [
+                &mut || {
+                    tables.byte_multiplicities.fill(0);
+                    assert_eq!(PLACES, values.iter().fold(0, |used, &value| port::look_up(&mut tables, used, value)));
+                },
+                &mut || {
+                    let mut trace = reach::empty_trace();
+                    elements.iter().for_each(|elements| reach::look_up(&mut trace, elements));
+                    assert_eq!(PLACES, trace.cascade_table_lookup_multiplicities.len());
+                    their_bytes = trace.lookup_table_lookup_multiplicities;
+                },
+            ],
+        );
+        assert_eq!(tables.byte_multiplicities, their_bytes);
+        line("look_up, a full cascade of 65,536 values, a hash map", ours, theirs, None);
+
+        let challenges = &self.challenges[..9];
+        let mut aux = vec![0; 3 * PLACES];
+        let mut sums = vec![X::new([B::new(0); 3]); PLACES];
+        let output = |byte: u64| ((byte + 1).pow(3) - 1) % 257;
+        let outputs: Vec<u64> = (0..PLACES as u64).map(|value| 256 * output(value / 256) + output(value % 256)).collect();
+        for (name, places) in [("byte_sum", 256), ("cascade_sum, 65,536 places", PLACES)] {
+            let [ours, theirs] = best(
+                runs,
+                [
+                    &mut || {
+                        let sum = if places == 256 {
+                            port::byte_sum(&tables.byte_multiplicities, challenges, &mut aux[..768])
+                        } else {
+                            port::cascade_sum(&tables, challenges, &mut aux)
+                        };
+                        black_box(sum);
+                    },
+                    &mut || {
+                        let summand = |i: usize| match places {
+                            256 => (i as u64, output(i as u64), tables.byte_multiplicities[i]),
+                            _ => (tables.keys[i] as u64, outputs[tables.keys[i] as usize], tables.multiplicities[i]),
+                        };
+                        assert!(by_hand::lookup_sum(places, summand, challenges, &mut sums));
+                    },
+                ],
+            );
+            assert!(
+                aux.chunks_exact(3)
+                    .zip(&sums)
+                    .take(places)
+                    .all(|(words, sum)| words == sum.coefficients.map(|word| word.value()))
+            );
+            line(&format!("{name}, Rust by hand"), ours, theirs, None);
+        }
     }
 
     // -------------------------------------------------------------------------------------------------------------------- growth

@@ -246,3 +246,76 @@ pub fn batches(jobs: &[u64], setting: u64, results: &mut [u64]) -> [u64; 2] {
     });
     answers
 }
+
+/// The lookup tables.
+pub struct Lookups {
+    pub keys: Vec<u16>,
+    pub multiplicities: Vec<u64>,
+    pub byte_multiplicities: [u64; 256],
+}
+
+impl Lookups {
+    pub fn new(capacity: usize) -> Self {
+        Self { keys: vec![0; capacity], multiplicities: vec![0; capacity], byte_multiplicities: [0; 256] }
+    }
+}
+
+/// The places used afterwards.
+pub fn look_up(tables: &mut Lookups, used: usize, value: u16) -> usize {
+    let (mut answers, capacity) = ([0; 1], tables.keys.len());
+    done(unsafe {
+        c::u32_table_look_up(
+            capacity,
+            used,
+            tables.keys.as_mut_ptr(),
+            capacity,
+            tables.multiplicities.as_mut_ptr(),
+            capacity,
+            tables.byte_multiplicities.as_mut_ptr(),
+            256,
+            value,
+            answers.as_mut_ptr(),
+            1,
+        )
+    });
+    answers[0] as usize
+}
+
+pub fn byte_sum(byte_multiplicities: &[u64; 256], challenges: &[u64], aux: &mut [u64]) -> [u64; 3] {
+    let mut answers = [0; 3];
+    done(unsafe {
+        c::u32_table_byte_sum(
+            byte_multiplicities.as_ptr(),
+            256,
+            challenges.as_ptr(),
+            challenges.len(),
+            aux.as_mut_ptr(),
+            aux.len(),
+            answers.as_mut_ptr(),
+            3,
+        )
+    });
+    answers
+}
+
+/// Of a full cascade.
+pub fn cascade_sum(tables: &Lookups, challenges: &[u64], aux: &mut [u64]) -> [u64; 3] {
+    let (mut answers, capacity) = ([0; 3], tables.keys.len());
+    done(unsafe {
+        c::u32_table_cascade_sum(
+            capacity,
+            capacity,
+            tables.keys.as_ptr(),
+            capacity,
+            tables.multiplicities.as_ptr(),
+            capacity,
+            challenges.as_ptr(),
+            challenges.len(),
+            aux.as_mut_ptr(),
+            aux.len(),
+            answers.as_mut_ptr(),
+            3,
+        )
+    });
+    answers
+}

@@ -98,6 +98,18 @@ pub fn record(list: &[Entry], keys: &[Key]) -> Vec<Entry> {
     entries.collect()
 }
 
+/// How many elements a call of [`looked_up`] takes at a time.
+pub const LOOKED_UP: usize = reach::LOOKED_UP;
+
+/// The original's two lookup tables after the limbs of these elements were looked up: the cascade in its order, and the multiplicities of the bytes.
+pub fn looked_up(elements: &[[u64; LOOKED_UP]]) -> (Vec<(u16, u64)>, [u64; 256]) {
+    let mut trace = reach::empty_trace();
+    elements.iter().for_each(|words| reach::look_up(&mut trace, &words.map(BFieldElement::new)));
+    let bytes = trace.lookup_table_lookup_multiplicities;
+    let cascade = trace.cascade_table_lookup_multiplicities.into_iter().map(|(&limb, &multiplicity)| (limb, multiplicity));
+    (cascade.collect(), bytes)
+}
+
 /// The original's padded height of a trace with these entries: that of the largest of all its tables.
 pub fn original_padded_height(list: &[Entry]) -> usize {
     trace_of(list).padded_height()

@@ -312,7 +312,7 @@ static void tables(void) {
 }
 
 /* the client's sum: known values, refusals request by request, and that it is the last sum of the table that is filled with the recordings */
-static void sums(void) {
+static void client_sums(void) {
     const uint64_t pow2_32 = UINT64_C(1) << 32;
     const uint64_t zeros[15] = {0}, one[15] = {1}, w[15] = {7, 0, 0, 1, 0, 0, 2, 0, 0, 3, 0, 0, 5}, f[15] = {52, 0, 0, 1, 0, 0, 2, 0, 0, 3, 0, 0, 5};
     const uint64_t five[15] = {5, 0, 0, 1}, two[15] = {2, 0, 0, 1};
@@ -346,6 +346,112 @@ static void sums(void) {
     expect("extend", extend(8), 0);
     const uint64_t last[3] = {answers[0], answers[1], answers[2]};
     DONE(client(requests, 9, challenges), 3, last[0], last[1], last[2]);
+}
+
+/* ---- the lookup tables */
+static uint16_t values[3];
+static uint64_t counts[3], byte_counts[256], sums[768], weights[9];
+static struct {
+    uint16_t values[3];
+    uint64_t counts[3], byte_counts[256], sums[768], weights[9];
+} lookup_copy;
+
+static void keep_lookups(void) {
+    keep();
+    memcpy(lookup_copy.values, values, sizeof values);
+    memcpy(lookup_copy.counts, counts, sizeof counts);
+    memcpy(lookup_copy.byte_counts, byte_counts, sizeof byte_counts);
+    memcpy(lookup_copy.sums, sums, sizeof sums);
+    memcpy(lookup_copy.weights, weights, sizeof weights);
+}
+
+static void lookups_refused(const char *what, uint64_t got, uint64_t wanted) {
+    expect(what, got, wanted);
+    answered(what, 0, NULL);
+    expect(what, (uint64_t)(memcmp(lookup_copy.values, values, sizeof values) | memcmp(lookup_copy.counts, counts, sizeof counts)), 0);
+    expect(what, (uint64_t)(memcmp(lookup_copy.byte_counts, byte_counts, sizeof byte_counts) | memcmp(lookup_copy.sums, sums, sizeof sums)), 0);
+    expect(what, (uint64_t)memcmp(lookup_copy.weights, weights, sizeof weights), 0);
+}
+#define NOT_LOOKED_UP(call, wanted) (keep_lookups(), lookups_refused(#call, call, wanted))
+
+static uint64_t look_up(size_t used, uint16_t value) {
+    return u32_table_look_up(3, used, values, 3, counts, 3, byte_counts, 256, value, answers, WORDS);
+}
+static uint64_t byte_sum(void) { return u32_table_byte_sum(byte_counts, 256, weights, 9, sums, 768, answers, WORDS); }
+static uint64_t cascade_sum(size_t used) {
+    return u32_table_cascade_sum(3, used, values, 3, counts, 3, weights, 9, sums, 9, answers, WORDS);
+}
+
+static void lookups(void) {
+    static const struct {
+        uint8_t byte;
+        uint64_t output;
+    } outputs[] = {{0, 0}, {1, 7}, {2, 26}, {3, 63}, {4, 124}, {127, 31}, {128, 224}, {253, 229}, {254, 248}, {255, 255}};
+    for (size_t i = 0; i < sizeof outputs / sizeof *outputs; i++) DONE(u32_table_byte_lookup(outputs[i].byte, answers, WORDS), 1, outputs[i].output);
+    DONE(u32_table_cascade_lookup(258, answers, WORDS), 1, 1818);
+    DONE(u32_table_cascade_lookup(32767, answers, WORDS), 1, 8191);
+    DONE(u32_table_cascade_lookup(65279, answers, WORDS), 1, 63743);
+    REFUSED(u32_table_byte_lookup(1, answers, 0), U32_TABLE_SHAPE);
+    REFUSED(u32_table_cascade_lookup(1, answers, 0), U32_TABLE_SHAPE);
+
+    /* recording: a new value, a known one, equal bytes; unused places hold anything */
+    for (int i = 0; i < 3; i++) values[i] = 9, counts[i] = 5;
+    DONE(look_up(0, 258), 1, 1);
+    DONE(look_up(1, 258), 1, 1);
+    DONE(look_up(1, 257), 1, 2);
+    DONE(look_up(2, 0), 1, 3);
+    NOT_LOOKED_UP(look_up(3, 511), U32_TABLE_CASCADE_FULL);
+    expect("values", values[0] == 258 && values[1] == 257 && values[2] == 0 && counts[0] == 2 && counts[1] == 1 && counts[2] == 1, 1);
+    expect("bytes", byte_counts[0] == 2 && byte_counts[1] == 3 && byte_counts[2] == 1 && byte_counts[3] == 0, 1);
+    NOT_LOOKED_UP(u32_table_look_up(3, 4, values, 3, counts, 3, byte_counts, 256, 0, answers, WORDS), U32_TABLE_SHAPE);
+    NOT_LOOKED_UP(u32_table_look_up(3, 2, values, 2, counts, 3, byte_counts, 256, 0, answers, WORDS), U32_TABLE_SHAPE);
+    NOT_LOOKED_UP(u32_table_look_up(3, 2, values, 3, counts, 2, byte_counts, 256, 0, answers, WORDS), U32_TABLE_SHAPE);
+    NOT_LOOKED_UP(u32_table_look_up(3, 2, values, 3, counts, 3, byte_counts, 255, 0, answers, WORDS), U32_TABLE_SHAPE);
+    NOT_LOOKED_UP(u32_table_look_up(65537, 2, values, 65537, counts, 65537, byte_counts, 256, 0, answers, WORDS), U32_TABLE_SHAPE);
+    NOT_LOOKED_UP(u32_table_look_up(3, 2, values, 3, counts, 3, byte_counts, 256, 0, answers, 0), U32_TABLE_SHAPE);
+    /* the limit: 5 before 14; equal bytes gain two; a known value does not look at its bytes */
+    byte_counts[7] = U32_TABLE_P - 2;
+    NOT_LOOKED_UP(look_up(3, 1799), U32_TABLE_COUNT_FULL);
+    NOT_LOOKED_UP(look_up(3, 1800), U32_TABLE_CASCADE_FULL);
+    DONE(look_up(2, 1800), 1, 3);
+    expect("at the limit", byte_counts[7] == U32_TABLE_P - 1 && byte_counts[8] == 1, 1);
+    DONE(look_up(3, 1800), 1, 3);
+    NOT_LOOKED_UP(look_up(2, 7), U32_TABLE_COUNT_FULL);
+    byte_counts[7] = UINT64_MAX;
+    NOT_LOOKED_UP(look_up(2, 1799), U32_TABLE_COUNT_FULL);
+    counts[0] = U32_TABLE_P - 1;
+    NOT_LOOKED_UP(look_up(3, 258), U32_TABLE_COUNT_FULL);
+
+    /* the sums: weights 0 and indeterminate 1 count; the order of the challenges; a denominator of zero whatever its multiplicity */
+    memset(byte_counts, 0, sizeof byte_counts), byte_counts[1] = 2, byte_counts[255] = 3;
+    for (int i = 0; i < 768; i++) sums[i] = MARK;
+    NOT_LOOKED_UP(byte_sum(), U32_TABLE_FLAT);
+    weights[6] = 1;
+    DONE(byte_sum(), 3, 5, 0, 0);
+    expect("sums so far", sums[0] == 0 && sums[3] == 2 && sums[762] == 2 && sums[765] == 5, 1);
+    weights[0] = 1, weights[6] = 300;
+    DONE(byte_sum(), 3, UINT64_C(6173592608292372590), 0, 0);
+    weights[6] = 200;
+    NOT_LOOKED_UP(byte_sum(), U32_TABLE_FLAT);
+    weights[8] = U32_TABLE_P;
+    NOT_LOOKED_UP(byte_sum(), U32_TABLE_UNREDUCED);
+    weights[8] = 0, byte_counts[255] = U32_TABLE_P;
+    NOT_LOOKED_UP(byte_sum(), U32_TABLE_UNREDUCED);
+    NOT_LOOKED_UP(u32_table_byte_sum(byte_counts, 255, weights, 9, sums, 768, answers, WORDS), U32_TABLE_SHAPE);
+    NOT_LOOKED_UP(u32_table_byte_sum(byte_counts, 256, weights, 8, sums, 768, answers, WORDS), U32_TABLE_SHAPE);
+    NOT_LOOKED_UP(u32_table_byte_sum(byte_counts, 256, weights, 9, sums, 767, answers, WORDS), U32_TABLE_SHAPE);
+    NOT_LOOKED_UP(u32_table_byte_sum(byte_counts, 256, weights, 9, sums, 768, answers, 2), U32_TABLE_SHAPE);
+    values[0] = 258, values[1] = 0, values[2] = 258, counts[0] = 2, counts[1] = 1, counts[2] = UINT64_MAX;
+    for (int i = 0; i < 9; i++) weights[i] = (uint64_t)i + 1, sums[i] = MARK;
+    DONE(cascade_sum(2), 3, UINT64_C(15290194053451644138), UINT64_C(12875512383110712106), UINT64_C(6833187814339853869));
+    expect("the first sum", sums[0] == UINT64_C(12112456093630427113) && sums[6] == MARK && sums[8] == MARK, 1);
+    NOT_LOOKED_UP(cascade_sum(3), U32_TABLE_UNREDUCED);
+    counts[2] = 0, memset(weights, 0, sizeof weights), weights[0] = 1, weights[6] = 258;
+    NOT_LOOKED_UP(cascade_sum(3), U32_TABLE_FLAT);
+    DONE(cascade_sum(0), 3, 0, 0, 0);
+    NOT_LOOKED_UP(u32_table_cascade_sum(3, 2, values, 3, counts, 3, weights, 9, sums, 6, answers, WORDS), U32_TABLE_SHAPE);
+    NOT_LOOKED_UP(u32_table_cascade_sum(3, 4, values, 3, counts, 3, weights, 9, sums, 9, answers, WORDS), U32_TABLE_SHAPE);
+    NOT_LOOKED_UP(u32_table_cascade_sum(3, 2, values, 3, counts, 3, weights, 9, sums, 9, answers, 2), U32_TABLE_SHAPE);
 }
 
 /* a pointer to no elements may be NULL */
@@ -414,7 +520,8 @@ int main(void) {
     expect("the number of the signatures", u32_table_abi_1(), 1);
     lists();
     tables();
-    sums();
+    client_sums();
+    lookups();
     batch_sizes();
     no_arrays();
     printf("%u comparisons, %u failed\n", tried, failed);

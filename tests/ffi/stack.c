@@ -49,6 +49,23 @@ static void extend(void) { number = u32_table_extend(table, 10 * ROWS, aux, 3 * 
 static void client_sum(void) { number = u32_table_client_sum(keys, 3 * PLACES, challenges, 15, answers, 8); }
 static void check(void) { number = u32_table_check(table, 10 * ROWS, aux, 3 * ROWS, challenges, 15, answers, 8); }
 
+/* a full cascade, and both sums */
+enum { CASCADE = U32_TABLE_MAX_CASCADE_PLACES };
+static uint16_t values[CASCADE];
+static uint64_t value_counts[CASCADE], byte_counts[256], value_sums[3 * CASCADE], byte_sums[768], lookup_challenges[9] = {1, 2, 3, 4, 5, 6, 7, 8, 9};
+static void look_up(void) {
+    for (uint64_t i = 0; i < CASCADE; i++) {
+        uint64_t got = u32_table_look_up(CASCADE, i, values, CASCADE, value_counts, CASCADE, byte_counts, 256, (uint16_t)(40503 * i), answers, 8);
+        number = number ? number : got;
+    }
+}
+static void byte_lookup(void) { number = u32_table_byte_lookup(255, answers, 8); }
+static void cascade_lookup(void) { number = u32_table_cascade_lookup(65535, answers, 8); }
+static void byte_sum(void) { number = u32_table_byte_sum(byte_counts, 256, lookup_challenges, 9, byte_sums, 768, answers, 8); }
+static void cascade_sum(void) {
+    number = u32_table_cascade_sum(CASCADE, CASCADE, values, CASCADE, value_counts, CASCADE, lookup_challenges, 9, value_sums, 3 * CASCADE, answers, 8);
+}
+
 static void *run(void *call) {
     (*(void (**)(void))call)();
     return NULL;
@@ -83,7 +100,9 @@ int main(void) {
         void (*call)(void);
         size_t most;
     } calls[] = {{"record", record, 2000}, {"replay", replay, 2000}, {"compare", compare, 2000}, {"plan", plan, 2000}, {"write", write, 52000}, {"read", read, 120000},
-                 {"read, old length", read_old, 120000}, {"fill", fill, 12000}, {"pad", pad, 2000}, {"extend", extend, 2000}, {"check", check, 2000}, {"client_sum", client_sum, 2000}, {"batches", batches, 2000}};
+                 {"read, old length", read_old, 120000}, {"fill", fill, 12000}, {"pad", pad, 2000}, {"extend", extend, 2000}, {"check", check, 2000}, {"client_sum", client_sum, 2000}, {"batches", batches, 2000},
+                 {"look_up", look_up, 2000}, {"byte_lookup", byte_lookup, 2000}, {"cascade_lookup", cascade_lookup, 2000},
+                 {"byte_sum", byte_sum, 2000}, {"cascade_sum", cascade_sum, 2000}};
     int failed = 0;
     for (int i = 0; i < 15; i++) challenges[i] = (uint64_t)(1000 + 77 * i);
     size_t thread = taken(nothing);

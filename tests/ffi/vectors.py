@@ -13,7 +13,8 @@ import json
 import sys
 
 MARK = 7777
-STATED = {"record": 2, "replay": 2, "compare": 1, "plan": 2, "read": 1, "write": 1, "fill": 1, "pad": 0, "extend": 3, "check": 7, "client_sum": 3, "batches": 2}
+STATED = {"record": 2, "replay": 2, "compare": 1, "plan": 2, "read": 1, "write": 1, "fill": 1, "pad": 0, "extend": 3, "check": 7,
+          "client_sum": 3, "batches": 2, "cascade_record": 1, "byte_sum": 3, "cascade_sum": 3}
 # the arguments in order: numbers by name, arrays in brackets
 ARGUMENTS = {
     "record": "capacity used [keys] [mults] entry",
@@ -27,8 +28,13 @@ ARGUMENTS = {
     "extend": "[table] [aux] [challenges]",
     "check": "[table] [aux] [challenges]",
     "client_sum": "[requests] [challenges]",
+    "cascade_record": "capacity used [keys] [mults] [bytes] value",
+    "byte_sum": "[bytes] [challenges] [aux]",
+    "cascade_sum": "capacity used [keys] [mults] [challenges] [aux]",
     "batches": "[jobs] setting [results]",
 }
+NAMES = {"cascade_record": "look_up"}  # of the C function, where it is another
+CASCADES = ("cascade_record", "cascade_sum")  # their keys have 16 bits
 
 
 def numbers(value):
@@ -36,8 +42,19 @@ def numbers(value):
     return [int(v) for v in value] if isinstance(value, list) else [int(value)]
 
 
+def is_bytes(name, value):
+    """Stored bytes and the room for them are hexadecimal digits; `bytes` of a lookup are multiplicities."""
+    return name in ("bytes", "out") and isinstance(value, str)
+
+
 def content(name, value):
-    return list(bytes.fromhex(value)) if name in ("bytes", "out") else numbers(value)
+    return list(bytes.fromhex(value)) if is_bytes(name, value) else numbers(value)
+
+
+def kind_of(call, name, value):
+    if is_bytes(name, value):
+        return ctypes.c_uint8
+    return ctypes.c_uint16 if call in CASCADES and name == "keys" else ctypes.c_uint64
 
 
 def make(library, vector, words):
@@ -49,13 +66,12 @@ def make(library, vector, words):
             arguments += [ctypes.c_uint64(n) for n in numbers(vector["in"][name])]
         else:
             values = content(name, vector["in"][name])
-            kind = ctypes.c_uint8 if name in ("bytes", "out") else ctypes.c_uint64
-            arrays[name] = (kind * len(values))(*values)
+            arrays[name] = (kind_of(vector["call"], name, vector["in"][name]) * len(values))(*values)
             arguments += [arrays[name], ctypes.c_size_t(len(values))]
     answers = (ctypes.c_uint64 * words)(*[MARK] * words)
     if STATED[vector["call"]]:
         arguments += [answers, ctypes.c_size_t(words)]
-    function = getattr(library, "u32_table_" + vector["call"])
+    function = getattr(library, "u32_table_" + NAMES.get(vector["call"], vector["call"]))
     function.restype = ctypes.c_uint64
     return function(*arguments), list(answers), {name: list(array) for name, array in arrays.items()}
 
@@ -75,6 +91,8 @@ def wanted(vector):
         return 0, [{"-1": 0, "0": 1, "1": 2}[value]]
     if call == "pad":
         return 0, []
+    if call == "cascade_record":
+        return 0, [int(vector["after"]["used"])]
     if call == "check":
         return 0, [0] if value == "zero" else [1] + numbers(value[:3]) + numbers(value[3])
     return 0, numbers(value)
@@ -110,7 +128,7 @@ def wrong_ones(vector):
         for place in {0, len(old) // 2, len(old) - 1} if old else ():
             wrong = copy.deepcopy(vector)
             new = old[:place] + [old[place] ^ 1] + old[place + 1:]
-            wrong["after"][name] = bytes(new).hex() if name in ("bytes", "out") else [str(w) for w in new]
+            wrong["after"][name] = bytes(new).hex() if is_bytes(name, vector["after"][name]) else [str(w) for w in new]
             yield wrong
 
 

@@ -58,7 +58,7 @@ pub struct Sizes {
 }
 
 impl Sizes {
-    fn numbers(self) -> [usize; 2] {
+    pub(crate) fn numbers(self) -> [usize; 2] {
         [self.capacity, self.used]
     }
 }

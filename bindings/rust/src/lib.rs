@@ -35,6 +35,9 @@
 //!
 //! The eleven calls stand here too as functions over slices, for arrays that a program has already; and [`batches`], which tries a batch size.
 //!
+//! Beside the table stand the byte lookup and the cascade of the hash function: [`Lookups`] records 16-bit values and makes the running sums of both, and
+//! there are functions over slices for these too.
+//!
 //! # Words and elements
 //!
 //! A word stands for the base element of that value: a word of a table, of the sums or of the challenges is below [`P`], the canonical value
@@ -61,6 +64,7 @@ mod batches;
 mod calls;
 mod constraints;
 mod list;
+mod lookups;
 mod opcode;
 mod refusal;
 mod sys;
@@ -70,6 +74,7 @@ pub use batches::{batches, Batch, Batched, Batches};
 pub use calls::{check, client_sum, compare, extend, fill, pad, plan, read, record, refused_entry, replay, write};
 pub use calls::{Entry, Group, Plan, Sizes, Stopped, Verdict};
 pub use list::List;
+pub use lookups::{byte_lookup, byte_sum, cascade_lookup, cascade_sum, look_up, Lookups};
 pub use opcode::Opcode;
 pub use refusal::Refusal;
 pub use table::Table;
@@ -103,6 +108,15 @@ pub const AUX_COLUMNS: usize = 3;
 
 /// Challenge words: Indeterminate, LhsWeight, RhsWeight, CiWeight and ResultWeight, three words each.
 pub const CHALLENGE_WORDS: usize = 15;
+
+/// A cascade has at most this many places: one for each 16-bit value.
+pub const MAX_CASCADE_PLACES: usize = 65536;
+
+/// The rows of the byte lookup: one a byte.
+pub const BYTE_ROWS: usize = 256;
+
+/// Challenge words of a lookup table: InputWeight, OutputWeight and Indeterminate, three words each.
+pub const LOOKUP_CHALLENGE_WORDS: usize = 9;
 
 /// The bytes that a stored list of so many entries takes; `usize::MAX` where a `usize` does not hold the number. Lists of the old length, with 21
 /// bytes an entry, are still read; see [`read`].

@@ -63,7 +63,8 @@ refusals! {
     /// is at most the capacity and that at most [`MAX_PLACES`](crate::MAX_PLACES); a table is whole rows, at most
     /// [`MAX_ROWS`](crate::MAX_ROWS); aux is three words a row; challenges are fifteen words; a trace is three words a step, and
     /// requests are three words each; in
-    /// [`batches`](crate::batches) the setting is from 1 to [`MAX_ROWS`](crate::MAX_ROWS), and jobs are at most [`MAX_JOBS`](crate::MAX_JOBS).
+    /// [`batches`](crate::batches) the setting is from 1 to [`MAX_ROWS`](crate::MAX_ROWS), and jobs are at most [`MAX_JOBS`](crate::MAX_JOBS). Of the lookup tables see
+    /// [`look_up`](crate::look_up) and the two sums.
     1 Shape "shape",
     /// An opcode that is none of the six; in [`replay`](crate::replay), none of the ten.
     2 Stranger "stranger",
@@ -80,7 +81,7 @@ refusals! {
     /// A word that is [`P`](crate::P) or more.
     8 Unreduced "unreduced",
     /// A row with CopyFlag 1, or a request, whose denominator is (0, 0, 0): U32Indeterminate equals its compressed row. See [`extend`](crate::extend)
-    /// and [`client_sum`](crate::client_sum).
+    /// and [`client_sum`](crate::client_sum). In the sums of the lookup tables, any byte or used place with that denominator.
     9 Flat "flat",
     /// Stored bytes of neither of the two lengths, or more than [`MAX_PLACES`](crate::MAX_PLACES) entries in them; see [`read`](crate::read).
     10 Torn "torn",
@@ -90,6 +91,8 @@ refusals! {
     12 Tally "tally",
     /// div_mod by 0, in [`replay`](crate::replay).
     13 ZeroDivisor "zero divisor",
+    /// A new value and no unused place in a cascade; see [`look_up`](crate::look_up).
+    14 CascadeFull "cascade full",
     /// A job of more rows than the setting, in [`batches`](crate::batches).
     17 JobAbove "job above",
 }

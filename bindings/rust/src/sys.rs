@@ -198,3 +198,77 @@ pub fn batches(jobs: &[u64], setting: u64, results: &mut [u64], answers: &mut [u
         )
     }
 }
+
+pub fn look_up(
+    [capacity, used]: [usize; 2],
+    keys: &mut [u16],
+    multiplicities: &mut [u64],
+    byte_multiplicities: &mut [u64],
+    value: u16,
+    answers: &mut [u64; 1],
+) -> u64 {
+    unsafe {
+        c::u32_table_look_up(
+            capacity,
+            used,
+            keys.as_mut_ptr(),
+            keys.len(),
+            multiplicities.as_mut_ptr(),
+            multiplicities.len(),
+            byte_multiplicities.as_mut_ptr(),
+            byte_multiplicities.len(),
+            value,
+            answers.as_mut_ptr(),
+            answers.len(),
+        )
+    }
+}
+
+pub fn byte_lookup(byte: u8, answers: &mut [u64; 1]) -> u64 {
+    unsafe { c::u32_table_byte_lookup(byte, answers.as_mut_ptr(), answers.len()) }
+}
+
+pub fn cascade_lookup(value: u16, answers: &mut [u64; 1]) -> u64 {
+    unsafe { c::u32_table_cascade_lookup(value, answers.as_mut_ptr(), answers.len()) }
+}
+
+pub fn byte_sum(byte_multiplicities: &[u64], challenges: &[u64], aux: &mut [u64], answers: &mut [u64; 3]) -> u64 {
+    unsafe {
+        c::u32_table_byte_sum(
+            byte_multiplicities.as_ptr(),
+            byte_multiplicities.len(),
+            challenges.as_ptr(),
+            challenges.len(),
+            aux.as_mut_ptr(),
+            aux.len(),
+            answers.as_mut_ptr(),
+            answers.len(),
+        )
+    }
+}
+
+pub fn cascade_sum(
+    [capacity, used]: [usize; 2],
+    keys: &[u16],
+    multiplicities: &[u64],
+    challenges: &[u64],
+    aux: &mut [u64],
+    answers: &mut [u64; 3],
+) -> u64 {
+    unsafe {
+        c::u32_table_cascade_sum(
+            capacity,
+            used,
+            keys.as_ptr(),
+            keys.len(),
+            multiplicities.as_ptr(),
+            multiplicities.len(),
+            challenges.as_ptr(),
+            challenges.len(),
+            aux.as_mut_ptr(),
+            aux.len(),
+            answers.as_mut_ptr(),
+            answers.len(),
+        )
+    }
+}

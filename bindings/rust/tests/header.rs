@@ -3,8 +3,8 @@ use std::collections::{BTreeMap, BTreeSet};
 use std::fs;
 use std::path::Path;
 use u32_table::{
-    column, steps, Opcode, Refusal, AUX_COLUMNS, BATCH_WORDS, CHALLENGE_WORDS, COLUMNS, KEY_WORDS, MAX_JOBS, MAX_PLACES,
-    MAX_ROWS, P, STEP_WORDS,
+    column, steps, Opcode, Refusal, AUX_COLUMNS, BATCH_WORDS, BYTE_ROWS, CHALLENGE_WORDS, COLUMNS, KEY_WORDS,
+    LOOKUP_CHALLENGE_WORDS, MAX_CASCADE_PLACES, MAX_JOBS, MAX_PLACES, MAX_ROWS, P, STEP_WORDS,
 };
 
 fn file(path: &str) -> String {
@@ -58,6 +58,9 @@ fn numbers_are_those_of_the_header() {
         ("COLUMNS", COLUMNS),
         ("AUX_COLUMNS", AUX_COLUMNS),
         ("CHALLENGE_WORDS", CHALLENGE_WORDS),
+        ("MAX_CASCADE_PLACES", MAX_CASCADE_PLACES),
+        ("BYTE_ROWS", BYTE_ROWS),
+        ("LOOKUP_CHALLENGE_WORDS", LOOKUP_CHALLENGE_WORDS),
     ] {
         same(name, place as u64);
     }
@@ -94,7 +97,9 @@ fn signatures(text: &str, before: &str, argument: impl Fn(&str) -> (String, Stri
 fn declarations_are_those_of_the_header() {
     let in_c = |argument: &str| {
         let at = argument.rfind([' ', '*']).unwrap() + 1;
-        let word = |text: &str| text.replace("uint64_t", "u64").replace("uint8_t", "u8").replace("size_t", "usize");
+        let word = |text: &str| {
+            text.replace("uint64_t", "u64").replace("uint16_t", "u16").replace("uint8_t", "u8").replace("size_t", "usize")
+        };
         let kind = word(argument[..at].trim());
         let kind = match (kind.strip_suffix(" *"), kind.strip_prefix("const ")) {
             (Some(_), Some(rest)) => format!("*const {}", rest.trim_end_matches(" *")),
@@ -111,5 +116,5 @@ fn declarations_are_those_of_the_header() {
     let declared = file("bindings/rust/sys/src/lib.rs");
     let declared = signatures(declared.split("extern \"C\"").next().unwrap(), " fn ", in_rust);
     assert_eq!(header, declared);
-    assert_eq!(header.len(), 12);
+    assert_eq!(header.len(), 17);
 }

@@ -15,15 +15,16 @@ const MOST_COUNT: u64 = P - 1;
 
 #[test]
 fn numbers_and_words() {
-    let numbers = (1..=13).chain([17]);
+    let numbers = (1..=14).chain([17]);
     assert_eq!(Refusal::all().len(), numbers.clone().count());
     for (number, reason) in numbers.zip(Refusal::all()) {
         assert_eq!(reason.number(), number);
         assert_eq!(Refusal::from_number(number), Some(reason));
         assert_eq!(reason.to_string(), format!("refused {number} ({})", reason.word()));
     }
+    assert_eq!(Refusal::all().len(), 15);
     // a number without a name is kept
-    for number in [14, 99, u64::MAX] {
+    for number in [15, 99, u64::MAX] {
         let other = Refusal::from_number(number).unwrap();
         assert_eq!((other, other.number()), (Other(number), number));
         assert_eq!(other.to_string(), format!("refused {number} (without a name)"));

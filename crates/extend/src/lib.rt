@@ -128,7 +128,7 @@ fn add_row(sum: XFieldElement, table: &[u64], i: usize, challenges: Challenges) 
 }
 
 // Stores a sum as row i of the aux words.
-fn put_sum(aux: &mut [u64], i: usize, sum: XFieldElement)
+pub fn put_sum(aux: &mut [u64], i: usize, sum: XFieldElement)
     requires { ⌜ auxWidth * i + auxWidth ≤ length (now aux) ⌝ }
     ensures { λ _. ⌜ now (aux .exit) ≡ sets (now (aux .entry)) (auxWidth * i) (elementWords (extOf sum)) ⌝ }
 {

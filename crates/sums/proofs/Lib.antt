@@ -1,5 +1,6 @@
 pub mod RunningSums
 pub mod SumWords
+pub mod SumsAlike
 pub mod ZeroDenominators
 pub mod LookupSums
 pub mod PlainSums

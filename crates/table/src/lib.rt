@@ -152,7 +152,7 @@ impl MainRow {
 }
 
 // Element i of words that hold extension elements.
-fn element_at(words: &[u64], i: usize) -> XFieldElement
+pub fn element_at(words: &[u64], i: usize) -> XFieldElement
     requires { ⌜ 3 * i + 3 ≤ length (now words) ⌝ }
     ensures { λ r. ⌜ extOf r ≡ elementAt (now (words .entry)) i ⌝ }
 {

@@ -15,6 +15,9 @@ ghost use Rattle.fill.specs.Padding.{padAll};
 ghost use Rattle.c_tables.specs.TableAnswers.{FillAnswers, FillLeaves, ExtendAnswers, ExtendLeaves};
 ghost use Rattle.c_tables.specs.TableAnswers.{CheckAnswers, SaysZeroIff, SaysZeroSound, SaysZeroSums};
 ghost use Rattle.c_tables.specs.TableAnswers.{ClientAnswers};
+ghost use Rattle.lookup.specs.Cascades.{lookUpAll};
+ghost use Rattle.lookup_sums.specs.LookupSums.{byteSumAll, cascadeSumAll};
+ghost use Rattle.c_lookups.specs.LookupAnswers.{lentCascade, lentLookups, lookedUpDue, byteOutputDue, cascadeOutputDue};
 
 // The number of these signatures. It is raised whenever one of them changes, and not where a function is added: here, in the name below, in include/u32_table.h and in the Rust
 // crate. Both name the symbol, so a program does not link with a library of other signatures.
@@ -222,4 +225,86 @@ pub extern "C" fn u32_table_batches(
     ensures results { λ _. ⌜ now (results .exit) ≡ lentDue 2 (now (answers .entry)) (now (results .entry)) (batchAll (now (jobs .entry)) setting (now (results .entry)) .left) ⌝ }
 {
     c_batches::batches(jobs, setting, results, answers)
+}
+
+// Answers: the places used afterwards.
+#[no_mangle]
+pub extern "C" fn u32_table_look_up(
+    capacity: usize,
+    used: usize,
+    keys: &mut [u16],
+    multiplicities: &mut [u64],
+    byte_multiplicities: &mut [u64],
+    limb: u16,
+    answers: &mut [u64],
+) -> u64
+    ensures answers { λ r. ⌜ Exported 1 (lookedUpDue (lookUpAll (lentLookups capacity used (now (keys .entry)) (now (multiplicities .entry)) (now («byte_multiplicities» .entry))) limb)) (now (answers .entry)) r (now (answers .exit)) ⌝ }
+    ensures keys { λ _. ⌜ now (keys .exit) ≡ lentDue 1 (now (answers .entry)) (now (keys .entry)) (lookUpAll (lentLookups capacity used (now (keys .entry)) (now (multiplicities .entry)) (now («byte_multiplicities» .entry))) limb .left .values .keys) ⌝ }
+    ensures multiplicities { λ _. ⌜ now (multiplicities .exit) ≡ lentDue 1 (now (answers .entry)) (now (multiplicities .entry)) (lookUpAll (lentLookups capacity used (now (keys .entry)) (now (multiplicities .entry)) (now («byte_multiplicities» .entry))) limb .left .values .multiplicities) ⌝ }
+    ensures bytes { λ _. ⌜ now («byte_multiplicities» .exit) ≡ lentDue 1 (now (answers .entry)) (now («byte_multiplicities» .entry)) (lookUpAll (lentLookups capacity used (now (keys .entry)) (now (multiplicities .entry)) (now («byte_multiplicities» .entry))) limb .left .byteMultiplicities) ⌝ }
+{
+    c_lookups::look_up(
+        capacity,
+        used,
+        keys,
+        multiplicities,
+        byte_multiplicities,
+        limb,
+        answers,
+    )
+}
+
+// Answers: the output of the byte.
+#[no_mangle]
+pub extern "C" fn u32_table_byte_lookup(byte: u8, answers: &mut [u64]) -> u64
+    ensures { λ r. ⌜ Exported 1 (byteOutputDue byte) (now (answers .entry)) r (now (answers .exit)) ⌝ }
+{
+    c_lookups::byte_lookup(byte, answers)
+}
+
+// Answers: the output of the 16-bit value.
+#[no_mangle]
+pub extern "C" fn u32_table_cascade_lookup(value: u16, answers: &mut [u64]) -> u64
+    ensures { λ r. ⌜ Exported 1 (cascadeOutputDue value) (now (answers .entry)) r (now (answers .exit)) ⌝ }
+{
+    c_lookups::cascade_lookup(value, answers)
+}
+
+// Answers: the three words of the last sum.
+#[no_mangle]
+pub extern "C" fn u32_table_byte_sum(
+    byte_multiplicities: &[u64],
+    challenges: &[u64],
+    aux: &mut [u64],
+    answers: &mut [u64],
+) -> u64
+    ensures answers { λ r. ⌜ Exported 3 (byteSumAll (now («byte_multiplicities» .entry)) (now (challenges .entry)) (now (aux .entry)) .answer) (now (answers .entry)) r (now (answers .exit)) ⌝ }
+    ensures aux { λ _. ⌜ now (aux .exit) ≡ lentDue 3 (now (answers .entry)) (now (aux .entry)) (byteSumAll (now («byte_multiplicities» .entry)) (now (challenges .entry)) (now (aux .entry)) .left) ⌝ }
+{
+    c_lookups::byte_sum(byte_multiplicities, challenges, aux, answers)
+}
+
+// Answers: the three words of the last sum.
+#[no_mangle]
+pub extern "C" fn u32_table_cascade_sum(
+    capacity: usize,
+    used: usize,
+    keys: &[u16],
+    multiplicities: &[u64],
+    challenges: &[u64],
+    aux: &mut [u64],
+    answers: &mut [u64],
+) -> u64
+    ensures answers { λ r. ⌜ Exported 3 (cascadeSumAll (lentCascade capacity used (now (keys .entry)) (now (multiplicities .entry))) (now (challenges .entry)) (now (aux .entry)) .answer) (now (answers .entry)) r (now (answers .exit)) ⌝ }
+    ensures aux { λ _. ⌜ now (aux .exit) ≡ lentDue 3 (now (answers .entry)) (now (aux .entry)) (cascadeSumAll (lentCascade capacity used (now (keys .entry)) (now (multiplicities .entry))) (now (challenges .entry)) (now (aux .entry)) .left) ⌝ }
+{
+    c_lookups::cascade_sum(
+        capacity,
+        used,
+        keys,
+        multiplicities,
+        challenges,
+        aux,
+        answers,
+    )
 }

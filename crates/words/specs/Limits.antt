@@ -5,6 +5,14 @@ use Prim.Native.Nat.{ℕ}
 abbrev pub maxPlaces : ℕ
 maxPlaces = 2048
 
+-- "no unused cascade place (of at most 65,536)": a larger capacity is a wrong shape
+abbrev pub maxCascadePlaces : ℕ
+maxCascadePlaces = 65536
+
+-- "Byte multiplicities not 256 .. are 1"
+abbrev pub byteRows : ℕ
+byteRows = 256
+
 -- "table .. over 131,072 rows" is a wrong shape
 abbrev pub maxRows : ℕ
 maxRows = 131072

@@ -18,6 +18,12 @@ pub const MAX_JOBS: usize = 1048576;
 // The byte lookup's rows: no padded height is below it.
 pub const MIN_PADDED_HEIGHT: u64 = 256;
 
+// A cascade has at most this many places.
+pub const MAX_CASCADE_PLACES: usize = 65536;
+
+// The byte lookup has this many rows, one a byte.
+pub const BYTE_ROWS: usize = 256;
+
 // No multiplicity is above this: p − 1.
 pub const MULTIPLICITY_LIMIT: u64 = 18446744069414584320;
 
@@ -36,6 +42,7 @@ pub enum Refusal {
     Repeat,
     Tally,
     ZeroDivisor,
+    CascadeFull,
     JobAbove,
 }
 
@@ -58,6 +65,7 @@ impl Refusal {
             Refusal::Repeat => 11,
             Refusal::Tally => 12,
             Refusal::ZeroDivisor => 13,
+            Refusal::CascadeFull => 14,
             Refusal::JobAbove => 17,
         }
     }

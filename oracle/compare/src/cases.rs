@@ -29,6 +29,8 @@ const REPEAT: u64 = 11;
 const TALLY: u64 = 12;
 /// Request 1's.
 const ZERO_DIVISOR: u64 = 13;
+/// Request 3's.
+const CASCADE_FULL: u64 = 14;
 
 /// Rows of the table in docs/DIFFERENCES.md, by their first cell. A refusal, or a panic of the original, that is none of them is a
 /// difference.
@@ -43,6 +45,7 @@ mod listed {
     pub const BELOW: &str = "a table below the height";
     pub const FILLED: &str = "a filled count above the rows";
     pub const FLAT: &str = "a denominator of (0, 0, 0)";
+    pub const PLACES: &str = "the places of the cascade";
 
     const PAGE: &str = include_str!("../../../docs/DIFFERENCES.md");
 
@@ -80,6 +83,8 @@ pub struct Counts {
     /// before a request that is not admitted.
     pub clients: [u64; 6],
     pub round_trips: u64,
+    /// Values looked up, those of them that were known, and with equal bytes when new; sums of the two lookup tables.
+    pub lookups: [u64; 4],
     pub elements: u64,
     /// By document 01's number.
     pub refusals: BTreeMap<u64, u64>,
@@ -119,6 +124,12 @@ pub enum Case {
     Client {
         requests: Vec<Key>,
         challenges: Challenges,
+    },
+    /// The limbs of these elements looked up in fresh tables, one after the other, with so many places; then both sums.
+    LookUp {
+        elements: Vec<[u64; LOOKED_UP]>,
+        capacity: usize,
+        challenges: [u64; 9],
     },
     Order {
         left: Key,
@@ -288,6 +299,7 @@ impl Comparison {
             Case::Record { list, capacity, keys } => self.record(list, *capacity, keys),
             Case::Replay { list, capacity, trace } => self.replay(list, *capacity, trace),
             Case::Client { requests, challenges } => self.client(requests, challenges),
+            Case::LookUp { elements, capacity, challenges } => self.look_up(elements, *capacity, challenges),
             Case::Order { left, right } => self.order(*left, *right),
             Case::Elements { words } => self.elements(words),
             Case::Shapes => self.shapes(),
@@ -901,6 +913,99 @@ impl Comparison {
         self.same("client_sum and the last sum", &ours, &sums[sums.len() - 1])
     }
 
+    /// The original has no limit of places: where the port refuses for want of one, the value is new to the original then, and what the port keeps is
+    /// the beginning of the original's cascade. The sums are made a second time, over the stand-in's elements.
+    fn look_up(&mut self, elements: &[[u64; LOOKED_UP]], capacity: usize, challenges: &[u64; 9]) -> Same {
+        let (cascade, bytes) = theirs("look_up", || looked_up(elements))?;
+        let mut ours = port::Lookups {
+            capacity,
+            used: 0,
+            keys: (0..capacity).map(|i| i as u16 ^ 0x5a5a).collect(),
+            multiplicities: old_words(capacity),
+            byte_multiplicities: vec![0; 256],
+        };
+        let before = ours.clone();
+        for &element in elements.as_flattened() {
+            for value in [0, 16, 32, 48].map(|shift| (element >> shift) as u16) {
+                let is_known = ours.keys[..ours.used].contains(&value);
+                let held = ours.clone();
+                let answer = port::look_up(&mut ours, value);
+                if is_known || held.used < capacity {
+                    ours.used = held.used + !is_known as usize;
+                    agree("look_up", answer, ours.used, answer == Ok([ours.used as u64]))?;
+                    self.counts.lookups[0] += 1;
+                    self.counts.lookups[1] += is_known as u64;
+                    self.counts.lookups[2] += (!is_known && value / 256 == value % 256) as u64;
+                } else {
+                    self.refused("look_up", answer, CASCADE_FULL)?;
+                    agree("look_up, refused", &ours, &held, ours == held)?;
+                    self.note(listed::PLACES);
+                }
+            }
+        }
+        let kept = cascade.len().min(capacity);
+        agree("look_up: used", ours.used, kept, ours.used == kept)?;
+        let words = |keys: &[u16]| keys.iter().map(|&key| key as u64).collect::<Vec<_>>();
+        let (keys, counts): (Vec<u16>, Vec<u64>) = cascade.iter().copied().unzip();
+        self.same("look_up: keys", &words(&ours.keys[..kept]), &words(&keys[..kept]))?;
+        self.same("look_up: multiplicities", &ours.multiplicities[..kept], &counts[..kept])?;
+        self.untouched("look_up: unused keys", &words(&ours.keys[kept..]), &words(&before.keys[kept..]))?;
+        self.untouched("look_up: unused multiplicities", &ours.multiplicities[kept..], &before.multiplicities[kept..])?;
+        let left_out = &keys[kept..];
+        let count = |byte: usize| {
+            let of = |key: &u16| (*key as usize / 256 == byte) as u64 + (*key as usize % 256 == byte) as u64;
+            bytes[byte] - left_out.iter().map(of).sum::<u64>()
+        };
+        self.same("look_up: byte multiplicities", &ours.byte_multiplicities, &(0..256).map(count).collect::<Vec<_>>())?;
+
+        let output = |byte: u64| ((byte + 1).pow(3) - 1) % 257;
+        let of_bytes = (0..256).map(|byte| (byte, output(byte), ours.byte_multiplicities[byte as usize]));
+        let mut aux = old_words(768);
+        let answer = port::byte_sum(&ours.byte_multiplicities, challenges, &mut aux);
+        self.lookup_sum("byte_sum", answer, &of_bytes.collect::<Vec<_>>(), challenges, &aux)?;
+        let cascade_output = |value: u64| 256 * output(value / 256) + output(value % 256);
+        let of_values = (0..kept).map(|i| (keys[i] as u64, cascade_output(keys[i] as u64), counts[i]));
+        let mut aux = old_words(3 * capacity);
+        let answer = port::cascade_sum(&ours, challenges, &mut aux);
+        self.lookup_sum("cascade_sum", answer, &of_values.collect::<Vec<_>>(), challenges, &aux)
+    }
+
+    /// A sum over input, output and multiplicity, made here too, and the aux words; or a word of p or more, or a denominator of zero.
+    fn lookup_sum(
+        &mut self,
+        what: &str,
+        answer: port::Answer<3>,
+        of: &[(u64, u64, u64)],
+        challenges: &[u64; 9],
+        aux: &[u64],
+    ) -> Same {
+        let old = old_words(aux.len());
+        if !is_reduced(challenges) {
+            self.refused(what, answer, UNREDUCED)?;
+            return self.untouched(what, aux, &old);
+        }
+        let [input_weight, output_weight, indeterminate] =
+            [0, 3, 6].map(|i| XFieldElement::new([i, i + 1, i + 2].map(|word| BFieldElement::new(challenges[word]))));
+        let denominator = |&(input, output, _): &(u64, u64, u64)| {
+            indeterminate - (input_weight * BFieldElement::new(input) + output_weight * BFieldElement::new(output))
+        };
+        let zero = XFieldElement::new([BFieldElement::new(0); 3]);
+        if of.iter().any(|summand| denominator(summand) == zero) {
+            self.refused(what, answer, FLAT)?;
+            return self.untouched(what, aux, &old);
+        }
+        let (mut sum, mut expected) = (zero, vec![]);
+        for summand in of {
+            sum = sum + denominator(summand).inverse() * BFieldElement::new(summand.2);
+            expected.extend(sum.coefficients.map(|word| word.value()));
+        }
+        self.counts.lookups[3] += 1;
+        let last = sum.coefficients.map(|word| word.value());
+        agree(what, answer, last, answer == Ok(last))?;
+        self.same(what, &aux[..expected.len()], &expected)?;
+        self.untouched(what, &aux[expected.len()..], &old[expected.len()..])
+    }
+
     fn order(&mut self, left: Key, right: Key) -> Same {
         self.counts.orders += 1;
         let ours = port::compare(left, right);
@@ -1114,6 +1219,35 @@ impl Case {
                 }
                 ways
             }
+            Case::LookUp { elements, capacity, challenges } => {
+                let case = |elements: &[[u64; LOOKED_UP]], capacity, challenges| Case::LookUp {
+                    elements: elements.to_vec(),
+                    capacity,
+                    challenges,
+                };
+                let mut ways = vec![];
+                for i in 0..elements.len() {
+                    ways.push(case(&[&elements[..i], &elements[i + 1..]].concat(), *capacity, *challenges));
+                    for j in 0..LOOKED_UP {
+                        for word in smaller_words(elements[i][j]) {
+                            let mut fewer = elements.clone();
+                            fewer[i][j] = word;
+                            ways.push(case(&fewer, *capacity, *challenges));
+                        }
+                    }
+                }
+                ways.extend(
+                    smaller_words(*capacity as u64).into_iter().map(|capacity| case(elements, capacity as usize, *challenges)),
+                );
+                ways.extend((0..9).flat_map(|i| smaller_words(challenges[i]).into_iter().map(move |word| (i, word))).map(
+                    |(i, word)| {
+                        let mut fewer = *challenges;
+                        fewer[i] = word;
+                        case(elements, *capacity, fewer)
+                    },
+                ));
+                ways
+            }
             Case::Order { left, right } => {
                 let words = [&left[..], &right[..]].concat();
                 let case =
@@ -1163,6 +1297,10 @@ impl std::fmt::Display for Case {
             Case::Client { requests, challenges } => {
                 writeln!(f, "the client's sum, challenges {}", words(challenges))?;
                 requests.iter().try_for_each(|request| writeln!(f, "  request {}", words(request)))
+            }
+            Case::LookUp { elements, capacity, challenges } => {
+                writeln!(f, "look-ups, capacity {capacity}, challenges {}", words(challenges))?;
+                elements.iter().try_for_each(|elements| writeln!(f, "  limbs of {}", words(elements)))
             }
             Case::Order { left, right } => writeln!(f, "order of {} and {}", words(left), words(right)),
             Case::Elements { words: all } => writeln!(f, "elements {}", words(all)),

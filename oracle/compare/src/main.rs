@@ -85,6 +85,10 @@ fn compare(seed: u64, size: Size) -> ExitCode {
             println!("NOT COMPARED (seed {seed}): bases of pow of p or more, {:?}", counts.raw);
             ExitCode::FAILURE
         }
+        None if counts.lookups.contains(&0) || !counts.refusals.contains_key(&14) => {
+            println!("NOT COMPARED (seed {seed}): look-ups, {:?}", counts.lookups);
+            ExitCode::FAILURE
+        }
         None if counts.stops.contains(&0) => {
             println!("NOT COMPARED (seed {seed}): steps of div_mod that stop, {:?}", counts.stops);
             ExitCode::FAILURE
@@ -122,6 +126,10 @@ fn print_counts(counts: &Counts) {
     println!(
         "client's sums {} requests {} rows of their tables {} by compute_terminal {}; zero denominators {} before a request not admitted {}",
         counts.clients[0], counts.clients[1], counts.clients[2], counts.clients[3], counts.clients[4], counts.clients[5]
+    );
+    println!(
+        "values looked up {} of them known {} new with equal bytes {}; sums of the lookup tables {}",
+        counts.lookups[0], counts.lookups[1], counts.lookups[2], counts.lookups[3]
     );
     println!("multiplicities past 32 bits, entries {} recordings {}", counts.large[0], counts.large[1]);
     println!("bases of pow of p or more, entries {} held {} recordings {}", counts.raw[0], counts.raw[1], counts.raw[2]);
@@ -291,6 +299,7 @@ impl Run {
             recordings(random),
             replays(random),
             requests(random, most),
+            look_ups(random),
             order(random),
             order(random),
             Case::Elements { words: (0..12).map(|_| any_word(random)).collect() },
@@ -538,6 +547,27 @@ fn requests(random: &mut Random, most: u64) -> Case {
         challenges[random.below(15) as usize] = random.one_of(&[P, P + 1, u64::MAX]);
     }
     Case::Client { requests, challenges }
+}
+
+/// Elements of few limbs, so that values are met again, equal bytes among them; often with too few places; challenges now and then of p or more, or
+/// with a denominator of zero.
+fn look_ups(random: &mut Random) -> Case {
+    let byte = |random: &mut Random| {
+        let any = random.below(256);
+        random.one_of(&[0, 1, 2, 7, 255, any])
+    };
+    let few: Vec<u64> = (0..12).map(|_| 256 * byte(random) + byte(random)).collect();
+    let limb = |random: &mut Random| if random.below(3) == 0 { random.below(1 << 16) } else { random.one_of(&few) };
+    let element = |random: &mut Random| (0..4).fold(0, |word, i| word | limb(random) << (16 * i)) % P;
+    let elements = (0..random.below(3)).map(|_| std::array::from_fn(|_| element(random))).collect();
+    let mut challenges: [u64; 9] = std::array::from_fn(|_| random.below(P));
+    match random.below(16) {
+        0 => challenges[random.below(9) as usize] = random.one_of(&[P, P + 1, u64::MAX]),
+        1 => challenges = [1, 0, 0, 0, 0, 0, random.one_of(&few), 0, 0],
+        2 => challenges = [0; 9],
+        _ => (),
+    }
+    Case::LookUp { elements, capacity: random.one_of(&[0, 1, 5, 20, 80, 300]), challenges }
 }
 
 fn order(random: &mut Random) -> Case {

@@ -15,7 +15,7 @@ pub type Answer<const N: usize> = Result<[u64; N], u64>;
 
 /// What a call hands back: its number, or one of its arrays. With a fault set, one word of it is changed after every twentieth such call,
 /// as a wrong library would: the comparison must find it.
-pub const FAULTS: [&str; 37] = [
+pub const FAULTS: [&str; 48] = [
     "record number",
     "record keys",
     "record multiplicities",
@@ -47,6 +47,17 @@ pub const FAULTS: [&str; 37] = [
     "check answers",
     "client_sum number",
     "client_sum answers",
+    "look_up number",
+    "look_up keys",
+    "look_up multiplicities",
+    "look_up byte multiplicities",
+    "look_up answers",
+    "byte_sum number",
+    "byte_sum aux",
+    "byte_sum answers",
+    "cascade_sum number",
+    "cascade_sum aux",
+    "cascade_sum answers",
     "constraints values",
     "products out",
     "inverses out",
@@ -96,6 +107,13 @@ impl Word for u64 {
 impl Word for u8 {
     const GUARD: u8 = 0x5a;
     fn spoilt(self) -> u8 {
+        self ^ 1
+    }
+}
+
+impl Word for u16 {
+    const GUARD: u16 = 0x5afe;
+    fn spoilt(self) -> u16 {
         self ^ 1
     }
 }
@@ -227,6 +245,100 @@ pub fn replay(list: &mut List, trace: &[u64]) -> (u64, [u64; 2]) {
     let words = answers.content();
     assert!(words[2..] == [OLD; 2], "the port: replay wrote to answers past the second");
     (if is_faulty(call, "number") { number ^ 1 } else { number }, [words[0], words[1]])
+}
+
+/// The lookup tables: capacity and used, keys and multiplicities of the cascade, and the multiplicities of the bytes.
+#[derive(Debug, Clone, Eq, PartialEq)]
+pub struct Lookups {
+    pub capacity: usize,
+    pub used: usize,
+    pub keys: Vec<u16>,
+    pub multiplicities: Vec<u64>,
+    pub byte_multiplicities: Vec<u64>,
+}
+
+/// Used.
+pub fn look_up(tables: &mut Lookups, value: u16) -> Answer<1> {
+    let call = "look_up";
+    let mut keys = Lent::new(call, "keys", &tables.keys);
+    let mut multiplicities = Lent::new(call, "multiplicities", &tables.multiplicities);
+    let mut byte_multiplicities = Lent::new(call, "byte multiplicities", &tables.byte_multiplicities);
+    let mut answers = answers(call, 1);
+    let number = unsafe {
+        c::u32_table_look_up(
+            tables.capacity,
+            tables.used,
+            keys.pointer(),
+            keys.len(),
+            multiplicities.pointer(),
+            multiplicities.len(),
+            byte_multiplicities.pointer(),
+            byte_multiplicities.len(),
+            value,
+            answers.pointer(),
+            answers.len(),
+        )
+    };
+    keys.back(&mut tables.keys);
+    multiplicities.back(&mut tables.multiplicities);
+    byte_multiplicities.back(&mut tables.byte_multiplicities);
+    answered(number, answers, |_| 1)
+}
+
+/// The last sum.
+pub fn byte_sum(byte_multiplicities: &[u64], challenges: &[u64], aux: &mut [u64]) -> Answer<3> {
+    let call = "byte_sum";
+    let mut bytes = Lent::new(call, "byte multiplicities", byte_multiplicities);
+    let mut weights = Lent::new(call, "challenges", challenges);
+    let mut sums = Lent::new(call, "aux", aux);
+    let mut answers = answers(call, 3);
+    let number = unsafe {
+        c::u32_table_byte_sum(
+            bytes.pointer(),
+            bytes.len(),
+            weights.pointer(),
+            weights.len(),
+            sums.pointer(),
+            sums.len(),
+            answers.pointer(),
+            answers.len(),
+        )
+    };
+    bytes.unchanged(byte_multiplicities);
+    weights.unchanged(challenges);
+    sums.back(aux);
+    answered(number, answers, |_| 3)
+}
+
+/// The last sum.
+pub fn cascade_sum(tables: &Lookups, challenges: &[u64], aux: &mut [u64]) -> Answer<3> {
+    let call = "cascade_sum";
+    let mut keys = Lent::new(call, "keys", &tables.keys);
+    let mut multiplicities = Lent::new(call, "multiplicities", &tables.multiplicities);
+    let mut weights = Lent::new(call, "challenges", challenges);
+    let mut sums = Lent::new(call, "aux", aux);
+    let mut answers = answers(call, 3);
+    let number = unsafe {
+        c::u32_table_cascade_sum(
+            tables.capacity,
+            tables.used,
+            keys.pointer(),
+            keys.len(),
+            multiplicities.pointer(),
+            multiplicities.len(),
+            weights.pointer(),
+            weights.len(),
+            sums.pointer(),
+            sums.len(),
+            answers.pointer(),
+            answers.len(),
+        )
+    };
+    keys.unchanged(&tables.keys);
+    multiplicities.unchanged(&tables.multiplicities);
+    weights.unchanged(challenges);
+    sums.back(aux);
+    answered(number, answers, |_| 3)
 }
 
 /// 0 less, 1 equal, 2 greater.

@@ -9,7 +9,7 @@
 #[macro_use]
 mod symbol;
 
-/// Hands the eleven declarations to the macro that is named.
+/// Hands the sixteen declarations to the macro that is named.
 #[macro_export]
 macro_rules! functions {
     ($to:ident) => {
@@ -130,6 +130,45 @@ macro_rules! functions {
                 setting: u64,
                 results: *mut u64,
                 result_words: usize,
+                answers: *mut u64,
+                answer_words: usize,
+            );
+            fn u32_table_look_up(
+                capacity: usize,
+                used: usize,
+                keys: *mut u16,
+                key_count: usize,
+                multiplicities: *mut u64,
+                places: usize,
+                byte_multiplicities: *mut u64,
+                byte_count: usize,
+                value: u16,
+                answers: *mut u64,
+                answer_words: usize,
+            );
+            fn u32_table_byte_lookup(byte: u8, answers: *mut u64, answer_words: usize);
+            fn u32_table_cascade_lookup(value: u16, answers: *mut u64, answer_words: usize);
+            fn u32_table_byte_sum(
+                byte_multiplicities: *const u64,
+                byte_count: usize,
+                challenges: *const u64,
+                challenge_words: usize,
+                aux: *mut u64,
+                aux_words: usize,
+                answers: *mut u64,
+                answer_words: usize,
+            );
+            fn u32_table_cascade_sum(
+                capacity: usize,
+                used: usize,
+                keys: *const u16,
+                key_count: usize,
+                multiplicities: *const u64,
+                places: usize,
+                challenges: *const u64,
+                challenge_words: usize,
+                aux: *mut u64,
+                aux_words: usize,
                 answers: *mut u64,
                 answer_words: usize,
             );

@@ -9,8 +9,10 @@ pub mod table;
 pub mod reach {
     use air::table::TableId;
     use indexmap::IndexMap;
+    use isa::instruction::Instruction;
     use isa::program::Program;
     use ndarray::Array2;
+    use twenty_first::prelude::*;
 
     use crate::aet::AlgebraicExecutionTrace;
     use crate::table::u32::U32TableEntry;
@@ -36,6 +38,18 @@ pub mod reach {
     /// `record_u32_table_entry`, by the call through which the virtual machine reaches it.
     pub fn record(trace: &mut AlgebraicExecutionTrace, entry: U32TableEntry) {
         trace.record_co_processor_call(CoProcessorCall::U32(entry));
+    }
+
+    /// The elements of a permutation's trace whose limbs are looked up: the first ones of each row but the last.
+    pub const LOOKED_UP: usize = tip5::NUM_ROUNDS * tip5::NUM_SPLIT_AND_LOOKUP;
+
+    /// `increase_lookup_multiplicities` for a trace with these elements, by the call through which the virtual machine reaches it.
+    pub fn look_up(trace: &mut AlgebraicExecutionTrace, elements: &[BFieldElement; LOOKED_UP]) {
+        let mut rows = [[BFieldElement::new(0); tip5::STATE_SIZE]; tip5::NUM_ROUNDS + 1];
+        for (i, &element) in elements.iter().enumerate() {
+            rows[i / tip5::NUM_SPLIT_AND_LOOKUP][i % tip5::NUM_SPLIT_AND_LOOKUP] = element;
+        }
+        trace.record_co_processor_call(CoProcessorCall::Tip5Trace(Instruction::Hash, Box::new(rows)));
     }
 
     pub fn table_height_contribution(entry: &U32TableEntry) -> u32 {

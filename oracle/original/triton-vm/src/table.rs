@@ -25,20 +25,25 @@ pub trait TraceTable: air::AIR {
 
 pub mod hash {
     use air::table::hash::PermutationTrace;
+    use air::table_column::HashMainColumn;
+    use air::table_column::MasterMainColumn;
     use ndarray::Array1;
     use ndarray::Array2;
     use twenty_first::prelude::*;
 
+    /// No rows: of a trace only what it looks up is asked here. There are columns up to the one that the original writes.
     pub fn trace_to_table_rows(_: PermutationTrace) -> Array2<BFieldElement> {
-        unimplemented!("stand-in")
+        Array2::default([0, HashMainColumn::CI.main_index() + 1])
     }
 
     pub fn trace_row_to_table_row(_: [BFieldElement; tip5::STATE_SIZE], _: usize) -> Array1<BFieldElement> {
         unimplemented!("stand-in")
     }
 
-    pub fn base_field_element_into_16_bit_limbs(_: BFieldElement) -> [u16; 4] {
-        unimplemented!("stand-in")
+    /// Of the canonical value, lowest first; the original's own function takes those of the Montgomery form. Which values are looked up is the
+    /// caller's to choose: every 16-bit value is a limb of some element.
+    pub fn base_field_element_into_16_bit_limbs(element: BFieldElement) -> [u16; 4] {
+        [0, 16, 32, 48].map(|shift| (element.value() >> shift) as u16)
     }
 }
 

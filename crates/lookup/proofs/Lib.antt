@@ -1,0 +1,4 @@
+pub mod ByteLookup
+pub mod Finding
+pub mod LookupCases
+pub mod Recordings

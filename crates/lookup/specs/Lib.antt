@@ -1,0 +1,5 @@
+pub mod ByteLookup
+pub mod Cascades
+pub mod Placing
+pub mod Recordings
+pub mod Runs

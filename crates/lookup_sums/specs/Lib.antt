@@ -1,0 +1,3 @@
+pub mod LookupSums
+pub mod Flat
+pub mod Elements
