@@ -4,7 +4,7 @@ use std::env;
 use std::path::PathBuf;
 use std::process::Command;
 
-const NAMES: [&str; 17] = ["record", "compare", "plan", "read", "write", "fill", "pad", "extend", "check", "replay", "client_sum", "batches", "look_up", "byte_lookup", "cascade_lookup", "byte_sum", "cascade_sum"];
+const NAMES: [&str; 19] = ["record", "compare", "plan", "read", "write", "fill", "pad", "extend", "check", "replay", "client_sum", "batches", "look_up", "byte_lookup", "cascade_lookup", "byte_sum", "cascade_sum", "archive", "restore"];
 
 fn main() {
     println!("cargo::rerun-if-env-changed=EARLIER_LIB");

@@ -1,5 +1,5 @@
 /* The U32 table of Triton VM, proved: record, replay, compare, plan, read, write, fill, pad, extend, check, client_sum; and of the
- * lookup tables beside it: look_up, byte_lookup, cascade_lookup, byte_sum, cascade_sum.
+ * lookup tables beside it: look_up, byte_lookup, cascade_lookup, byte_sum, cascade_sum; and archive and restore, which keep a table as bytes.
  *
  * The functions stand in crates/u32_table. `rt staticlib u32_table` proves them and writes target/staticlib/libu32_table.a for x86-64 Linux:
  *
@@ -61,7 +61,8 @@ enum {
     U32_TABLE_SHORT = 7,      /* too few rows, output bytes or result places; a filled count above the rows; a check of no rows */
     U32_TABLE_UNREDUCED = 8,  /* a word that is U32_TABLE_P or more */
     U32_TABLE_FLAT = 9,       /* a denominator of (0, 0, 0), of a row with CopyFlag 1 or of a request; see u32_table_extend */
-    U32_TABLE_TORN = 10,      /* stored bytes of neither of the two lengths, or more than 2,048 entries in them */
+    U32_TABLE_TORN = 10,      /* stored bytes of neither of the two lengths, or more than 2,048 entries in them; an archive of a wrong length, or of more
+                               * than 131,072 rows */
     U32_TABLE_REPEAT = 11,    /* equal keys in stored bytes, or in a list to be written */
     U32_TABLE_TALLY = 12,     /* the stored height is not the sum of the entries' heights */
     U32_TABLE_ZERO_DIVISOR = 13, /* div_mod by 0, in u32_table_replay */
@@ -121,7 +122,10 @@ enum {
  * u32_table_read. */
 #define U32_TABLE_STORED_BYTES(n) (8 + 25 * (size_t)(n))
 
-/* How many words of `answers` each call states; u32_table_pad has none. */
+/* Bytes that an archive of so many rows takes, at most U32_TABLE_MAX_ROWS. */
+#define U32_TABLE_ARCHIVE_BYTES(rows) (8 + 104 * (size_t)(rows))
+
+/* How many words of `answers` each call states; u32_table_pad, u32_table_archive and u32_table_restore have none. */
 enum {
     U32_TABLE_RECORD_ANSWERS = 2,
     U32_TABLE_REPLAY_ANSWERS = 2,
@@ -316,6 +320,20 @@ uint64_t u32_table_cascade_sum(size_t capacity, size_t used, const uint16_t *key
  * JOB_ABOVE; SHORT (fewer places in `results` than batches). */
 uint64_t u32_table_batches(const uint64_t *jobs, size_t job_count, uint64_t setting, uint64_t *results, size_t result_words,
                            uint64_t *answers, size_t answer_words);
+
+/* Archives a table and its sums, with columns side by side: from the start of `out` the row count, then the ten main columns, then the three columns of
+ * aux, each top to bottom, all in little-endian words of 8 bytes: U32_TABLE_ARCHIVE_BYTES of the rows. Bytes of `out` past the end keep their values.
+ * It has no answers besides the number.
+ * Refusals, in this order: SHAPE (table_words is not whole rows or over 131,072 rows, or aux_words is not three a row); SHORT (byte_count is less than the
+ * archive takes); UNREDUCED (table or aux). */
+uint64_t u32_table_archive(const uint64_t *table, size_t table_words, const uint64_t *aux, size_t aux_words, uint8_t *out, size_t byte_count);
+
+/* Restores an archive: its rows replace the first rows of table and aux, and later rows keep their words. The row count is the first word of `bytes`.
+ * What was archived comes back word for word, and an archive that is accepted is archived again to the same bytes.
+ * It has no answers besides the number.
+ * Refusals, in this order: SHAPE (of table and aux, as for u32_table_archive); TORN (byte_count is not U32_TABLE_ARCHIVE_BYTES of the row count, or that is
+ * above 131,072); SHORT (the table has fewer rows than the archive); UNREDUCED (a word of the archive's columns). */
+uint64_t u32_table_restore(const uint8_t *bytes, size_t byte_count, uint64_t *table, size_t table_words, uint64_t *aux, size_t aux_words);
 
 #ifdef __cplusplus
 }

@@ -22,25 +22,28 @@ KINDS = {
 }
 KIND = {
     "field": "call", "xfield": "call", "isa": "call", "list_record": "call", "list_replay": "call", "list_stored": "call", "check_table": "call", "fill": "call",
-    "extend": "call", "client_sum": "call", "lookup": "call", "lookup_sums": "call", "transcript": "call", "sums": "theory", "air": "theory",
+    "extend": "call", "client_sum": "call", "lookup": "call", "lookup_sums": "call", "archive": "call", "transcript": "call", "sums": "theory", "air": "theory",
+    "archive_trips": "theory",
     "row_bound": "theory", "four_calls": "theory", "client_law": "theory", "list_round_trips": "theory", "u32list_example": "theory",
-    "u32list": "program", "u32check": "program", "batches": "call", "u32batch": "program", "u32_table": "program",
+    "u32list": "program", "u32check": "program", "u32archive": "program", "batches": "call", "u32batch": "program", "u32_table": "program",
 }  # fmt: skip
 
 # A room: its name, and its crates with the column of each. Rooms share a column only where one stands above the other.
 ROOMS = {
     "words, entries": {"words": 1, "isa": 1},
-    "elements": {"field": 4, "xfield": 4},
+    "elements": {"field": 5, "xfield": 5},
     "lists": {"list": 1, "list_record": 0, "list_replay": 0, "list_bytes": 1, "list_repeats": 2, "list_stored": 1, "list_round_trips": 1},
-    "table": {"table": 4, "sums": 4},
-    "check": {"air": 4, "check_rows": 4, "check_plain": 5, "check_pairs": 4, "check_search": 4, "check_table": 4},
-    "filling": {"fill_results": 6, "fill_sections": 6, "fill": 6, "extend": 6},
-    "the four calls": {"row_bound": 6, "four_calls": 6},
-    "the other side": {"client_sum": 7, "client_law": 7},
-    "programs": {"text": 8, "transcript": 8, "numbers": 9, "names": 10, "streams": 11, "u32list_example": 8, "u32list": 11, "table_text": 9, "u32check": 10},
-    "lookup tables": {"lookup": 12, "lookup_sums": 12},
-    "batches": {"batches": 13, "batch_text": 13, "u32batch": 13},
-    "C functions": {"c_answers": 1, "c_lists": 1, "c_batches": 0, "c_tables": 2, "c_lookups": 3, "u32_table": 1},
+    "table": {"table": 5, "sums": 5},
+    "check": {"air": 5, "check_rows": 5, "check_plain": 6, "check_pairs": 5, "check_search": 5, "check_table": 5},
+    "filling": {"fill_results": 7, "fill_sections": 7, "fill": 7, "extend": 7},
+    "the four calls": {"row_bound": 7, "four_calls": 7},
+    "the other side": {"client_sum": 8, "client_law": 8},
+    "programs": {"text": 9, "transcript": 9, "numbers": 10, "names": 11, "streams": 12, "u32list_example": 9, "u32list": 12, "table_text": 10, "table_input": 11, "u32check": 11},
+    "lookup tables": {"lookup": 13, "lookup_sums": 13},
+    "batches": {"batches": 14, "batch_text": 14, "u32batch": 14},
+    "archives": {"archive": 15, "archive_trips": 15},
+    "archive program": {"archive_text": 16, "u32archive": 16},
+    "C functions": {"c_answers": 1, "c_lists": 1, "c_batches": 0, "c_tables": 2, "c_lookups": 3, "c_archive": 4, "u32_table": 1},
 }  # fmt: skip
 
 

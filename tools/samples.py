@@ -99,16 +99,22 @@ def inverse_of_element(x):
     return answer
 
 
-def last_sum(challenges, rows):
+def running_sums(challenges, rows):
+    """The sum so far beside each row."""
     indeterminate, *weights = [challenges[i : i + 3] for i in range(0, 15, 3)]
-    total = [0, 0, 0]
+    total, sums = [0, 0, 0], []
     for r in rows:
         if r[0] == 1:
             fields = (r[4], r[6], r[3], r[8])
             compressed = [sum(w[i] * f for w, f in zip(weights, fields)) for i in range(3)]
             summand = inverse_of_element([(a - b) % P for a, b in zip(indeterminate, compressed)])
             total = [(t + r[9] * s) % P for t, s in zip(total, summand)]
-    return total
+        sums.append(total)
+    return sums
+
+
+def last_sum(challenges, rows):
+    return ([[0, 0, 0]] + running_sums(challenges, rows))[-1]
 
 
 def text(challenges, entries):

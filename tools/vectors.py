@@ -13,7 +13,7 @@ crates/vectors_text/stdin is packed by tests/pack-cases from cases that came fro
 same form are read after it: request-NN.jsonl has calls as change request NN has them, and the calls of CALLS.jsonl that a request answers
 otherwise are left out; the others in tests/vectors have the original Rust's answers (tools/filled_tables.py, tools/named_tables.py and
 tools/recorded_lists.py make them). request-07.jsonl has those calls of the request's file that take at most 6,000 characters, and the shortest one of
-each call and answer that would have none. request-01.jsonl, replays, request-02.jsonl, client's sums, request-03.jsonl, lookups, and request-12.jsonl, batches, are run through the C
+each call and answer that would have none. request-01.jsonl, replays, request-02.jsonl, client's sums, request-03.jsonl, lookups, request-10.jsonl, archives, and request-12.jsonl, batches, are run through the C
 functions alone (tests/ffi/vectors.py). What the vectors leave out, and edges, are added here; their answers are computed by the few lines of
 arithmetic below, which share nothing with the library. A number file is decimal numbers; the first of each line is the kind of the line.
 """

@@ -272,3 +272,48 @@ pub fn lookup_sum(n: usize, summand: impl Fn(usize) -> (u64, u64, u64), challeng
     }
     true
 }
+
+/// Rows of so many words, as bytes column by column.
+fn put_columns(words: &[u64], width: usize, out: &mut [u8]) {
+    for (column, bytes) in out.chunks_exact_mut(8 * (words.len() / width)).enumerate() {
+        for (bytes, row) in bytes.as_chunks_mut::<8>().0.iter_mut().zip(words.chunks_exact(width)) {
+            *bytes = row[column].to_le_bytes();
+        }
+    }
+}
+
+/// A table of one row or more with its sums, columns side by side, with the judging that our contract demands.
+pub fn archive(table: &[u64], aux: &[u64], out: &mut [u8]) -> bool {
+    if table.iter().chain(aux).any(|&word| word >= B::P) {
+        return false;
+    }
+    let rows = table.len() / 10;
+    let (count, columns) = out.split_at_mut(8);
+    count.copy_from_slice(&(rows as u64).to_le_bytes());
+    let (main, sums) = columns.split_at_mut(80 * rows);
+    put_columns(table, 10, main);
+    put_columns(aux, 3, sums);
+    true
+}
+
+/// Words in columns, row by row.
+fn take_rows(words: &[[u8; 8]], width: usize, to: &mut [u64]) {
+    let rows = to.len() / width;
+    for (i, row) in to.chunks_exact_mut(width).enumerate() {
+        for (column, word) in row.iter_mut().enumerate() {
+            *word = u64::from_le_bytes(words[rows * column + i]);
+        }
+    }
+}
+
+/// The inverse, onto as many rows, with the judging too.
+pub fn restore(bytes: &[u8], table: &mut [u64], aux: &mut [u64]) -> bool {
+    let [count, words @ ..] = bytes.as_chunks::<8>().0 else { return false };
+    let wrong = words.len() != table.len() + aux.len() || u64::from_le_bytes(*count) != table.len() as u64 / 10;
+    if wrong || words.iter().any(|&word| u64::from_le_bytes(word) >= B::P) {
+        return false;
+    }
+    take_rows(&words[..table.len()], 10, table);
+    take_rows(&words[table.len()..], 3, aux);
+    true
+}

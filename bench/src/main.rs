@@ -370,6 +370,7 @@ impl Inputs {
         self.replay(runs);
         self.client(runs);
         self.lookups(runs);
+        archives(runs);
         batches(runs);
     }
 
@@ -622,4 +623,29 @@ fn batches(runs: usize) {
         assert!(listed[..3 * answered[0] as usize] == written[..3 * answered[0] as usize]);
         line(&format!("batches, 1,048,576 jobs, setting {setting}, one pass by hand"), ours, theirs, None);
     }
+}
+
+/// A table of the most rows and its sums, as bytes with columns side by side and back, beside the same copies by hand, which judge all words first too.
+fn archives(runs: usize) {
+    const ROWS: usize = 131072;
+    let mut random = Random(10);
+    let mut words = |n: usize| -> Vec<u64> { (0..n).map(|_| random.word() % P).collect() };
+    let (table, aux) = (words(10 * ROWS), words(3 * ROWS));
+    let [mut ours_out, mut theirs_out] = [vec![0; 8 + 104 * ROWS], vec![0; 8 + 104 * ROWS]];
+    let [ours, theirs] = best(
+        runs,
+        [&mut || port::archive(&table, &aux, &mut ours_out), &mut || assert!(by_hand::archive(&table, &aux, &mut theirs_out))],
+    );
+    assert!(ours_out == theirs_out);
+    line("archive, 131,072 rows, the same copy by hand", ours, theirs, None);
+
+    let [mut ours_back, mut theirs_back] = [(); 2].map(|_| (vec![0; 10 * ROWS], vec![0; 3 * ROWS]));
+    let [ours, theirs] = best(
+        runs,
+        [&mut || port::restore(&ours_out, &mut ours_back.0, &mut ours_back.1), &mut || {
+            assert!(by_hand::restore(&theirs_out, &mut theirs_back.0, &mut theirs_back.1))
+        }],
+    );
+    assert!(ours_back == theirs_back && ours_back == (table, aux));
+    line("restore, 131,072 rows, the same copy by hand", ours, theirs, None);
 }

@@ -454,7 +454,120 @@ static void lookups(void) {
     NOT_LOOKED_UP(u32_table_cascade_sum(3, 2, values, 3, counts, 3, weights, 9, sums, 9, answers, 2), U32_TABLE_SHAPE);
 }
 
-/* a pointer to no elements may be NULL */
+/* ---- archives */
+static uint64_t rows_in[20], sums_in[6], rows_back[30], sums_back[9];
+static uint8_t archived[U32_TABLE_ARCHIVE_BYTES(2) + 2];
+
+static uint64_t archive(size_t words, size_t aux_words, size_t n) {
+    memset(archived, 0xee, sizeof archived);
+    return u32_table_archive(rows_in, words, sums_in, aux_words, archived, n);
+}
+static uint64_t restore(size_t n, size_t rows) {
+    for (int i = 0; i < 30; i++) rows_back[i] = 9;
+    for (int i = 0; i < 9; i++) sums_back[i] = 8;
+    return u32_table_restore(archived, n, rows_back, 10 * rows, sums_back, 3 * rows);
+}
+static uint64_t word(size_t k) {
+    uint64_t value = 0;
+    for (size_t i = 8; i-- > 0;) value = value << 8 | archived[8 * k + i];
+    return value;
+}
+static void put_word(size_t k, uint64_t value) {
+    for (size_t i = 0; i < 8; i++) archived[8 * k + i] = (uint8_t)(value >> 8 * i);
+}
+/* from byte n on nothing is written */
+static void bytes_kept(const char *what, size_t n) {
+    for (; n < sizeof archived; n++) expect(what, archived[n], 0xee);
+}
+/* from row n on nothing is written */
+static void rows_kept(const char *what, int n) {
+    for (int i = 10 * n; i < 30; i++) expect(what, rows_back[i], 9);
+    for (int i = 3 * n; i < 9; i++) expect(what, sums_back[i], 8);
+}
+#define NOT_ARCHIVED(call, wanted) (expect(#call, call, wanted), bytes_kept(#call, 0))
+#define NOT_RESTORED(call, wanted) (expect(#call, call, wanted), rows_kept(#call, 0))
+
+static void archives(void) {
+    for (uint64_t i = 0; i < 20; i++) rows_in[i] = i + 1;
+    for (uint64_t i = 0; i < 6; i++) sums_in[i] = i + 1000;
+    expect("archive", archive(20, 6, 218), 0);
+    expect("row count", word(0), 2);
+    for (uint64_t c = 0; c < 10; c++) expect("column", word(1 + 2 * c) == c + 1 && word(2 + 2 * c) == c + 11, 1);
+    for (uint64_t c = 0; c < 3; c++) expect("sum column", word(21 + 2 * c) == c + 1000 && word(22 + 2 * c) == c + 1003, 1);
+    bytes_kept("past the archive", 216);
+
+    /* back, onto more rows, as many, and fewer */
+    expect("restore", restore(216, 3), 0);
+    expect("rows", (uint64_t)(memcmp(rows_back, rows_in, sizeof rows_in) | memcmp(sums_back, sums_in, sizeof sums_in)), 0);
+    rows_kept("past the rows", 2);
+    expect("restore", restore(216, 2), 0);
+    NOT_RESTORED(restore(216, 1), U32_TABLE_SHORT);
+    NOT_RESTORED(restore(215, 3), U32_TABLE_TORN);
+    NOT_RESTORED(restore(217, 3), U32_TABLE_TORN);
+    NOT_RESTORED(u32_table_restore(archived, 0, rows_back, 29, sums_back, 9), U32_TABLE_SHAPE);
+    NOT_RESTORED(u32_table_restore(archived, 0, rows_back, 30, sums_back, 8), U32_TABLE_SHAPE);
+    /* 8 in each column, and 10 and 7 before it */
+    for (size_t k = 1; k < 27; k++) {
+        uint64_t old = word(k);
+        put_word(k, U32_TABLE_P);
+        NOT_RESTORED(restore(216, 3), U32_TABLE_UNREDUCED);
+        NOT_RESTORED(restore(216, 1), U32_TABLE_SHORT);
+        NOT_RESTORED(restore(208, 1), U32_TABLE_TORN);
+        put_word(k, U32_TABLE_P - 1);
+        expect("p - 1", restore(216, 3), 0);
+        put_word(k, old);
+    }
+
+    /* archiving refuses: 1, then 7, then 8 */
+    rows_in[19] = U32_TABLE_P;
+    NOT_ARCHIVED(archive(19, 6, 218), U32_TABLE_SHAPE);
+    NOT_ARCHIVED(archive(20, 5, 218), U32_TABLE_SHAPE);
+    NOT_ARCHIVED(archive(20, 6, 215), U32_TABLE_SHORT);
+    NOT_ARCHIVED(archive(20, 6, 216), U32_TABLE_UNREDUCED);
+    rows_in[19] = 20, sums_in[5] = U32_TABLE_P;
+    NOT_ARCHIVED(archive(20, 6, 216), U32_TABLE_UNREDUCED);
+    sums_in[5] = 1005;
+
+    /* no rows, and row counts that the bytes do not have: 2^61 + 1 would wrap to the length of one row */
+    expect("no rows", archive(0, 0, 9), 0);
+    expect("its row count", word(0), 0);
+    bytes_kept("past no rows", 8);
+    NOT_ARCHIVED(archive(0, 0, 7), U32_TABLE_SHORT);
+    memset(archived, 0, sizeof archived);
+    for (size_t n = 0; n < 10; n++) {
+        expect("eight bytes of no rows", restore(n, 1), n == 8 ? 0 : U32_TABLE_TORN);
+        rows_kept("no rows", 0);
+    }
+    put_word(0, 1);
+    expect("a row of zeros", restore(112, 1), 0);
+    expect("its words", rows_back[0] == 0 && rows_back[9] == 0 && rows_back[10] == 9 && sums_back[2] == 0 && sums_back[3] == 8, 1);
+    NOT_RESTORED(restore(8, 1), U32_TABLE_TORN);
+    put_word(0, (UINT64_C(1) << 61) + 1);
+    NOT_RESTORED(restore(112, 1), U32_TABLE_TORN);
+    put_word(0, U32_TABLE_MAX_ROWS + 1);
+    NOT_RESTORED(restore(112, 1), U32_TABLE_TORN);
+    memset(archived, 0xff, sizeof archived);
+    NOT_RESTORED(restore(8, 1), U32_TABLE_TORN);
+    put_word(0, 1);
+    NOT_RESTORED(restore(112, 0), U32_TABLE_SHORT);
+    NOT_RESTORED(restore(112, 1), U32_TABLE_UNREDUCED);
+
+    /* the most rows, and one more */
+    enum { MOST = U32_TABLE_MAX_ROWS };
+    static uint64_t table_in[10 * (MOST + 1)], aux_in[3 * (MOST + 1)], table_back[10 * (MOST + 1)], aux_back[3 * (MOST + 1)];
+    static uint8_t large[U32_TABLE_ARCHIVE_BYTES(MOST + 1)];
+    for (uint64_t i = 0; i < 10 * MOST; i++) table_in[i] = (i + 1) * UINT64_C(0x9e3779b97f4a7c15) >> 1;
+    for (uint64_t i = 0; i < 3 * MOST; i++) aux_in[i] = (i + 7) * UINT64_C(0xc2b2ae3d27d4eb4f) >> 1;
+    memset(table_back, 0xee, sizeof table_back), memset(aux_back, 0xee, sizeof aux_back);
+    expect("131,073 rows", u32_table_archive(table_in, 10 * (MOST + 1), aux_in, 3 * (MOST + 1), large, sizeof large), U32_TABLE_SHAPE);
+    expect("131,072 rows", u32_table_archive(table_in, 10 * MOST, aux_in, 3 * MOST, large, sizeof large), 0);
+    expect("back onto 131,073 rows", u32_table_restore(large, U32_TABLE_ARCHIVE_BYTES(MOST), table_back, 10 * (MOST + 1), aux_back, 3 * (MOST + 1)), U32_TABLE_SHAPE);
+    expect("untouched", table_back[0] == aux_back[0] && table_back[0] == UINT64_C(0xeeeeeeeeeeeeeeee), 1);
+    expect("back", u32_table_restore(large, U32_TABLE_ARCHIVE_BYTES(MOST), table_back, 10 * MOST, aux_back, 3 * MOST), 0);
+    expect("word for word", (uint64_t)(memcmp(table_in, table_back, 80 * MOST) | memcmp(aux_in, aux_back, 24 * MOST)), 0);
+    expect("the last word", large[U32_TABLE_ARCHIVE_BYTES(MOST) - 1], aux_in[3 * MOST - 1] >> 56);
+}
+
 /* ---- batches */
 static uint64_t results[9];
 static uint64_t batches(const uint64_t *jobs, size_t n, uint64_t setting, size_t words) {
@@ -488,7 +601,12 @@ static void batch_sizes(void) {
     KEPT();
 }
 
+/* a pointer to no elements may be NULL */
 static void no_arrays(void) {
+    expect("archive of no rows", u32_table_archive(NULL, 0, NULL, 0, bytes, 8), 0);
+    expect("back", u32_table_restore(bytes, 8, NULL, 0, NULL, 0), 0);
+    expect("archive to no bytes", u32_table_archive(NULL, 0, NULL, 0, NULL, 0), U32_TABLE_SHORT);
+    expect("restore of no bytes", u32_table_restore(NULL, 0, NULL, 0, NULL, 0), U32_TABLE_TORN);
     REFUSED(u32_table_client_sum(NULL, 0, NULL, 0, answers, WORDS), U32_TABLE_SHAPE);
     REFUSED(u32_table_client_sum(NULL, 0, NULL, 0, NULL, 0), U32_TABLE_SHAPE);
     DONE(u32_table_batches(NULL, 0, 1, NULL, 0, answers, WORDS), 2, 0, 0);
@@ -522,6 +640,7 @@ int main(void) {
     tables();
     client_sums();
     lookups();
+    archives();
     batch_sizes();
     no_arrays();
     printf("%u comparisons, %u failed\n", tried, failed);

@@ -66,6 +66,11 @@ static void cascade_sum(void) {
     number = u32_table_cascade_sum(CASCADE, CASCADE, values, CASCADE, value_counts, CASCADE, lookup_challenges, 9, value_sums, 3 * CASCADE, answers, 8);
 }
 
+/* the table and its sums as bytes, and back */
+static uint8_t archived[U32_TABLE_ARCHIVE_BYTES(ROWS)];
+static void archive(void) { number = u32_table_archive(table, 10 * ROWS, aux, 3 * ROWS, archived, sizeof archived); }
+static void restore(void) { number = u32_table_restore(archived, sizeof archived, table, 10 * ROWS, aux, 3 * ROWS); }
+
 static void *run(void *call) {
     (*(void (**)(void))call)();
     return NULL;
@@ -102,7 +107,7 @@ int main(void) {
     } calls[] = {{"record", record, 2000}, {"replay", replay, 2000}, {"compare", compare, 2000}, {"plan", plan, 2000}, {"write", write, 52000}, {"read", read, 120000},
                  {"read, old length", read_old, 120000}, {"fill", fill, 12000}, {"pad", pad, 2000}, {"extend", extend, 2000}, {"check", check, 2000}, {"client_sum", client_sum, 2000}, {"batches", batches, 2000},
                  {"look_up", look_up, 2000}, {"byte_lookup", byte_lookup, 2000}, {"cascade_lookup", cascade_lookup, 2000},
-                 {"byte_sum", byte_sum, 2000}, {"cascade_sum", cascade_sum, 2000}};
+                 {"byte_sum", byte_sum, 2000}, {"cascade_sum", cascade_sum, 2000}, {"archive", archive, 2000}, {"restore", restore, 2000}};
     int failed = 0;
     for (int i = 0; i < 15; i++) challenges[i] = (uint64_t)(1000 + 77 * i);
     size_t thread = taken(nothing);

@@ -14,7 +14,8 @@ import sys
 
 MARK = 7777
 STATED = {"record": 2, "replay": 2, "compare": 1, "plan": 2, "read": 1, "write": 1, "fill": 1, "pad": 0, "extend": 3, "check": 7,
-          "client_sum": 3, "batches": 2, "cascade_record": 1, "byte_sum": 3, "cascade_sum": 3}
+          "client_sum": 3, "batches": 2, "cascade_record": 1, "byte_sum": 3, "cascade_sum": 3,
+          "archive": 0, "unarchive": 0}
 # the arguments in order: numbers by name, arrays in brackets
 ARGUMENTS = {
     "record": "capacity used [keys] [mults] entry",
@@ -32,8 +33,10 @@ ARGUMENTS = {
     "byte_sum": "[bytes] [challenges] [aux]",
     "cascade_sum": "capacity used [keys] [mults] [challenges] [aux]",
     "batches": "[jobs] setting [results]",
+    "archive": "[table] [aux] [out]",
+    "unarchive": "[bytes] [table] [aux]",
 }
-NAMES = {"cascade_record": "look_up"}  # of the C function, where it is another
+NAMES = {"cascade_record": "look_up", "unarchive": "restore"}  # of the C function, where it is another
 CASCADES = ("cascade_record", "cascade_sum")  # their keys have 16 bits
 
 
@@ -89,7 +92,7 @@ def wanted(vector):
         return 0, [int(value), int(vector["after"]["used"])]
     if call == "compare":
         return 0, [{"-1": 0, "0": 1, "1": 2}[value]]
-    if call == "pad":
+    if not STATED[call]:
         return 0, []
     if call == "cascade_record":
         return 0, [int(vector["after"]["used"])]

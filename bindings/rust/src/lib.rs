@@ -36,7 +36,7 @@
 //! The eleven calls stand here too as functions over slices, for arrays that a program has already; and [`batches`], which tries a batch size.
 //!
 //! Beside the table stand the byte lookup and the cascade of the hash function: [`Lookups`] records 16-bit values and makes the running sums of both, and
-//! there are functions over slices for these too.
+//! there are functions over slices for these too. [`archive`] keeps a table and its sums as bytes, with columns side by side, and [`restore`] gives both back.
 //!
 //! # Words and elements
 //!
@@ -60,6 +60,7 @@
 #![deny(unsafe_code)]
 #![warn(rust_2018_idioms)]
 
+mod archive;
 mod batches;
 mod calls;
 mod constraints;
@@ -70,6 +71,7 @@ mod refusal;
 mod sys;
 mod table;
 
+pub use archive::{archive, archive_bytes, archived_rows, restore};
 pub use batches::{batches, Batch, Batched, Batches};
 pub use calls::{check, client_sum, compare, extend, fill, pad, plan, read, record, refused_entry, replay, write};
 pub use calls::{Entry, Group, Plan, Sizes, Stopped, Verdict};

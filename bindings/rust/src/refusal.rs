@@ -76,14 +76,16 @@ refusals! {
     5 CountFull "count full",
     /// A new key and no unused place; in reading, more entries than places.
     6 ListFull "list full",
-    /// A table below the height, a filled count above the rows, a check of no rows, too few output bytes, or fewer result places than batches.
+    /// A table below the height, a filled count above the rows, a check of no rows, too few output bytes, fewer rows than an archive has, or fewer
+    /// result places than batches.
     7 Short "short",
     /// A word that is [`P`](crate::P) or more.
     8 Unreduced "unreduced",
     /// A row with CopyFlag 1, or a request, whose denominator is (0, 0, 0): U32Indeterminate equals its compressed row. See [`extend`](crate::extend)
     /// and [`client_sum`](crate::client_sum). In the sums of the lookup tables, any byte or used place with that denominator.
     9 Flat "flat",
-    /// Stored bytes of neither of the two lengths, or more than [`MAX_PLACES`](crate::MAX_PLACES) entries in them; see [`read`](crate::read).
+    /// Stored bytes of neither of the two lengths, or more than [`MAX_PLACES`](crate::MAX_PLACES) entries in them; see [`read`](crate::read). An archive of
+    /// another length than its row count says, or of more than [`MAX_ROWS`](crate::MAX_ROWS) rows; see [`restore`](crate::restore).
     10 Torn "torn",
     /// Equal keys in stored bytes, or in a list to be written.
     11 Repeat "repeat",

@@ -272,3 +272,11 @@ pub fn cascade_sum(
         )
     }
 }
+
+pub fn archive(table: &[u64], aux: &[u64], out: &mut [u8]) -> u64 {
+    unsafe { c::u32_table_archive(table.as_ptr(), table.len(), aux.as_ptr(), aux.len(), out.as_mut_ptr(), out.len()) }
+}
+
+pub fn restore(bytes: &[u8], table: &mut [u64], aux: &mut [u64]) -> u64 {
+    unsafe { c::u32_table_restore(bytes.as_ptr(), bytes.len(), table.as_mut_ptr(), table.len(), aux.as_mut_ptr(), aux.len()) }
+}

@@ -3,7 +3,7 @@ use std::collections::{BTreeMap, BTreeSet};
 use std::fs;
 use std::path::Path;
 use u32_table::{
-    column, steps, Opcode, Refusal, AUX_COLUMNS, BATCH_WORDS, BYTE_ROWS, CHALLENGE_WORDS, COLUMNS, KEY_WORDS,
+    archive_bytes, column, steps, Opcode, Refusal, AUX_COLUMNS, BATCH_WORDS, BYTE_ROWS, CHALLENGE_WORDS, COLUMNS, KEY_WORDS,
     LOOKUP_CHALLENGE_WORDS, MAX_CASCADE_PLACES, MAX_JOBS, MAX_PLACES, MAX_ROWS, P, STEP_WORDS,
 };
 
@@ -69,6 +69,8 @@ fn numbers_are_those_of_the_header() {
     assert_eq!(left, ["DONE", "EQUAL", "GREATER", "LESS"]);
     assert!(header.contains(&format!("#define U32_TABLE_P UINT64_C({P})\n")));
     assert!(header.contains("#define U32_TABLE_STORED_BYTES(n) (8 + 25 * (size_t)(n))\n"));
+    assert!(header.contains("#define U32_TABLE_ARCHIVE_BYTES(rows) (8 + 104 * (size_t)(rows))\n"));
+    assert_eq!([0, 1, MAX_ROWS].map(archive_bytes), [8, 112, 8 + 104 * MAX_ROWS]);
 }
 
 #[test]
@@ -116,5 +118,5 @@ fn declarations_are_those_of_the_header() {
     let declared = file("bindings/rust/sys/src/lib.rs");
     let declared = signatures(declared.split("extern \"C\"").next().unwrap(), " fn ", in_rust);
     assert_eq!(header, declared);
-    assert_eq!(header.len(), 17);
+    assert_eq!(header.len(), 19);
 }

@@ -1,9 +1,10 @@
 // Standard input and standard output of a program: a call that is interrupted is made again, and one that fails says so in a line on standard
-// error.
+// error. Lines of a program's own for standard error.
 ghost use Prim.Native.Nat.{_≤_};
 ghost use lib.ListN.{length};
 ghost use Rattle.streams.specs.Streams.{GotIn, ReachedIn, FilledIn};
 use libc::EINTR;
+use libc::STDERR_FILENO;
 use libc::STDIN_FILENO;
 use libc::STDOUT_FILENO;
 
@@ -130,4 +131,9 @@ pub fn write_all(bytes: &[u8]) {
             Reached::Failed => return,
         }
     }
+}
+
+// Writes a line to standard error. Where that fails, there is no place left to say so.
+pub fn write_error(line: &[u8]) {
+    io::write_all(STDERR_FILENO, line);
 }

@@ -133,7 +133,7 @@ pub fn feed(stage: Stage, part: &[u8], words: &mut [u64]) -> Stage
 }
 
 // The end of the text, which ends a number too.
-fn end_number(stage: Stage, words: &mut [u64]) -> Stage
+pub fn end_number(stage: Stage, words: &mut [u64]) -> Stage
     requires { ⌜ (maxWords ≤ length (now words)) × Within stage ⌝ }
     ensures { λ r. ⌜ IsFed (endNumber stage (now (words .entry))) r (now (words .exit)) ⌝ }
 {
@@ -151,7 +151,7 @@ fn end_number(stage: Stage, words: &mut [u64]) -> Stage
 }
 
 // What a text is that ended here: no number is missing.
-fn judge_end(stage: Stage) -> Taken
+pub fn judge_end(stage: Stage) -> Taken
     ensures { λ r. ⌜ r ≡ takenOf stage ⌝ }
 {
     match stage {

@@ -17,6 +17,7 @@ ghost use Rattle.c_tables.specs.TableAnswers.{CheckAnswers, SaysZeroIff, SaysZe
 ghost use Rattle.c_tables.specs.TableAnswers.{ClientAnswers};
 ghost use Rattle.lookup.specs.Cascades.{lookUpAll};
 ghost use Rattle.lookup_sums.specs.LookupSums.{byteSumAll, cascadeSumAll};
+ghost use Rattle.archive.specs.Archives.{archiveAll, restoreAll};
 ghost use Rattle.c_lookups.specs.LookupAnswers.{lentCascade, lentLookups, lookedUpDue, byteOutputDue, cascadeOutputDue};
 
 // The number of these signatures. It is raised whenever one of them changes, and not where a function is added: here, in the name below, in include/u32_table.h and in the Rust
@@ -307,4 +308,23 @@ pub extern "C" fn u32_table_cascade_sum(
         aux,
         answers,
     )
+}
+
+// It has no answers besides the number.
+#[no_mangle]
+pub extern "C" fn u32_table_archive(table: &[u64], aux: &[u64], out: &mut [u8]) -> u64
+    ensures number { λ r. ⌜ r ≡ archiveAll (now (table .entry)) (now (aux .entry)) (now (out .entry)) .answer .number ⌝ }
+    ensures bytes { λ _. ⌜ now (out .exit) ≡ archiveAll (now (table .entry)) (now (aux .entry)) (now (out .entry)) .left ⌝ }
+{
+    c_archive::archive(table, aux, out)
+}
+
+// It has no answers besides the number.
+#[no_mangle]
+pub extern "C" fn u32_table_restore(bytes: &[u8], table: &mut [u64], aux: &mut [u64]) -> u64
+    ensures number { λ r. ⌜ r ≡ restoreAll (now (bytes .entry)) (now (table .entry)) (now (aux .entry)) .answer .number ⌝ }
+    ensures table { λ _. ⌜ now (table .exit) ≡ restoreAll (now (bytes .entry)) (now (table .entry)) (now (aux .entry)) .left .table ⌝ }
+    ensures aux { λ _. ⌜ now (aux .exit) ≡ restoreAll (now (bytes .entry)) (now (table .entry)) (now (aux .entry)) .left .aux ⌝ }
+{
+    c_archive::restore(bytes, table, aux)
 }

@@ -9,7 +9,7 @@
 #[macro_use]
 mod symbol;
 
-/// Hands the sixteen declarations to the macro that is named.
+/// Hands the nineteen declarations to the macro that is named.
 #[macro_export]
 macro_rules! functions {
     ($to:ident) => {
@@ -171,6 +171,22 @@ macro_rules! functions {
                 aux_words: usize,
                 answers: *mut u64,
                 answer_words: usize,
+            );
+            fn u32_table_archive(
+                table: *const u64,
+                table_words: usize,
+                aux: *const u64,
+                aux_words: usize,
+                out: *mut u8,
+                byte_count: usize,
+            );
+            fn u32_table_restore(
+                bytes: *const u8,
+                byte_count: usize,
+                table: *mut u64,
+                table_words: usize,
+                aux: *mut u64,
+                aux_words: usize,
             );
         }
     };

@@ -1,7 +1,7 @@
 -- `u32check::run` meets its contract: the answer has room, and what is written is a part of it.
 use mathlib.Core.Path.{sym}
 use lib.Seq.{length-take-le}
-use Rattle.u32check.proofs.Reading.{text-within}
+use Rattle.table_input.proofs.Reading.{text-within}
 use borrow.Author.Needs.{needs}
 use Rattle.u32check.proofs.run.Statement.{statement}
 use Rattle.u32check.proofs.run.Tie as tie

@@ -1,0 +1,5 @@
+pub mod Rows
+pub mod Outputs
+pub mod Packing
+pub mod Unpacking
+pub mod Fits

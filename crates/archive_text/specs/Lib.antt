@@ -1,0 +1,4 @@
+pub mod Outputs
+pub mod Packing
+pub mod Unpacking
+pub mod Asking

@@ -1,0 +1,4 @@
+pub mod Rearranged
+pub mod RoundTrips
+pub mod TwoCalls
+pub mod ThreeCalls
