@@ -1,17 +1,51 @@
 //! The port's static libraries are linked by u32-table-sys, from the folder U32_TABLE_LIB (default: target/staticlib of the repository). Where
 //! EARLIER_LIB names the folder of another libu32_table.a, that is linked here too, with `earlier_` before its names.
 use std::env;
+use std::fs;
 use std::path::PathBuf;
 use std::process::Command;
 
-const NAMES: [&str; 19] = ["record", "compare", "plan", "read", "write", "fill", "pad", "extend", "check", "replay", "client_sum", "batches", "look_up", "byte_lookup", "cascade_lookup", "byte_sum", "cascade_sum", "archive", "restore"];
+const NAMES: [&str; 22] = [
+    "record",
+    "hold",
+    "confirm",
+    "drop",
+    "compare",
+    "plan",
+    "read",
+    "write",
+    "fill",
+    "pad",
+    "extend",
+    "check",
+    "replay",
+    "client_sum",
+    "batches",
+    "look_up",
+    "byte_lookup",
+    "cascade_lookup",
+    "byte_sum",
+    "cascade_sum",
+    "archive",
+    "restore",
+];
+
+/// The symbol of a library whose lists have no holds; of it record has other arguments, and extend and check have these.
+const WITHOUT_HOLDS: &str = "u32_table_abi_1";
 
 fn main() {
     println!("cargo::rerun-if-env-changed=EARLIER_LIB");
-    println!("cargo::rustc-check-cfg=cfg(earlier)");
+    println!("cargo::rustc-check-cfg=cfg(earlier, without_holds)");
     if let Some(folder) = env::var_os("EARLIER_LIB") {
         let library = PathBuf::from(folder).join("libu32_table.a");
         let out = PathBuf::from(env::var_os("OUT_DIR").unwrap());
+        let content = fs::read(&library).expect("the earlier library");
+        let has = |symbol: &str| content.windows(symbol.len()).any(|name| name == symbol.as_bytes());
+        if has(WITHOUT_HOLDS) {
+            println!("cargo::rustc-cfg=without_holds");
+        } else {
+            assert!(env::var("DEP_U32_TABLE_SYMBOL").is_ok_and(|symbol| has(&symbol)), "an earlier library of other signatures");
+        }
         let names = NAMES.map(|name| format!("u32_table_{name}")).into_iter().chain(env::var("DEP_U32_TABLE_SYMBOL"));
         let names = names.map(|name| format!("--redefine-sym={name}=earlier_{name}"));
         let status = Command::new("objcopy").args(names).arg(&library).arg(out.join("libearlier.a")).status();

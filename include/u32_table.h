@@ -1,5 +1,5 @@
-/* The U32 table of Triton VM, proved: record, replay, compare, plan, read, write, fill, pad, extend, check, client_sum; and of the
- * lookup tables beside it: look_up, byte_lookup, cascade_lookup, byte_sum, cascade_sum; and archive and restore, which keep a table as bytes.
+/* The U32 table of Triton VM, proved: record, hold, confirm, drop, replay, compare, plan, read, write, fill, pad, extend, check, client_sum; and of
+ * the lookup tables beside it: look_up, byte_lookup, cascade_lookup, byte_sum, cascade_sum; and archive and restore, which keep a table as bytes.
  *
  * The functions stand in crates/u32_table. `rt staticlib u32_table` proves them and writes target/staticlib/libu32_table.a for x86-64 Linux:
  *
@@ -41,13 +41,13 @@ extern "C" {
 /* The number of the signatures below, as a symbol of the library: each program names it here, so one that was compiled for other signatures than
  * the library has does not link. The number is raised whenever a signature changes: here, in crates/u32_table and in the Rust crate. A function that
  * is added changes no signature: a program that calls it does not link with a library that lacks it. */
-uint64_t u32_table_abi_1(void);
+uint64_t u32_table_abi_2(void);
 #ifdef __has_attribute
 #if __has_attribute(retain)
 __attribute__((retain))
 #endif
 #endif
-__attribute__((used)) static uint64_t (*const u32_table_abi)(void) = u32_table_abi_1;
+__attribute__((used)) static uint64_t (*const u32_table_abi)(void) = u32_table_abi_2;
 
 /* Reasons to decline. */
 enum {
@@ -56,7 +56,7 @@ enum {
     U32_TABLE_STRANGER = 2,   /* an opcode that is none of the six; in u32_table_replay, none of the ten */
     U32_TABLE_WIDE = 3,       /* an operand outside its range; the left one of pow has none but in stored bytes */
     U32_TABLE_BARE_LOG = 4,   /* log_2_floor of 0 */
-    U32_TABLE_COUNT_FULL = 5, /* a multiplicity above U32_TABLE_P - 1; in recording, if one more would pass that */
+    U32_TABLE_COUNT_FULL = 5, /* a multiplicity above U32_TABLE_P - 1; in recording and holding, if count plus holds and one more would pass that */
     U32_TABLE_LIST_FULL = 6,  /* a new key and no unused place; in reading, more entries than places */
     U32_TABLE_SHORT = 7,      /* too few rows, output bytes or result places; a filled count above the rows; a check of no rows */
     U32_TABLE_UNREDUCED = 8,  /* a word that is U32_TABLE_P or more */
@@ -67,6 +67,8 @@ enum {
     U32_TABLE_TALLY = 12,     /* the stored height is not the sum of the entries' heights */
     U32_TABLE_ZERO_DIVISOR = 13, /* div_mod by 0, in u32_table_replay */
     U32_TABLE_CASCADE_FULL = 14, /* a new value and no unused cascade place, in u32_table_look_up */
+    U32_TABLE_OPEN_HOLD = 15, /* a hold at a used place, in u32_table_plan, u32_table_write and u32_table_fill */
+    U32_TABLE_NO_HOLD = 16,   /* a position that is not used, or has no hold, in u32_table_confirm and u32_table_drop */
     U32_TABLE_JOB_ABOVE = 17  /* a job of more rows than the setting, in u32_table_batches */
 };
 
@@ -125,9 +127,11 @@ enum {
 /* Bytes that an archive of so many rows takes, at most U32_TABLE_MAX_ROWS. */
 #define U32_TABLE_ARCHIVE_BYTES(rows) (8 + 104 * (size_t)(rows))
 
-/* How many words of `answers` each call states; u32_table_pad, u32_table_archive and u32_table_restore have none. */
+/* How many words of `answers` each call states; u32_table_confirm, u32_table_drop, u32_table_pad,
+ * u32_table_archive and u32_table_restore have none. */
 enum {
     U32_TABLE_RECORD_ANSWERS = 2,
+    U32_TABLE_HOLD_ANSWERS = 2,
     U32_TABLE_REPLAY_ANSWERS = 2,
     U32_TABLE_COMPARE_ANSWERS = 1,
     U32_TABLE_PLAN_ANSWERS = 2,
@@ -145,9 +149,13 @@ enum {
     U32_TABLE_CASCADE_SUM_ANSWERS = 3
 };
 
-/* A list is `capacity` places, of which the first `used` hold an entry each: three key words a place and one multiplicity a place. So
- * key_words has to be 3 * capacity and `places` has to be `capacity`; used is at most capacity, and capacity at most 2,048. Anything
- * else is U32_TABLE_SHAPE.
+/* A list is `capacity` places, of which the first `used` have an entry each: three key words, one multiplicity and one number of holds a place. So
+ * key_words has to be 3 * capacity, and `places` and hold_places have to be `capacity`; used is at most capacity, and capacity at most 2,048.
+ * Anything else is U32_TABLE_SHAPE. A fresh list has `used` 0, and any words in its arrays.
+ *
+ * Holds are recordings that are not confirmed yet: see u32_table_hold. A list that gets none keeps holds of 0 at its used places, since every append
+ * sets those of its place. They are not in stored lists, and a list with an open hold cannot be written: what is held and not confirmed is lost with
+ * the memory.
  *
  * An entry is admitted if its opcode is one of the six, both operands are below 2^32 (but the left one of pow), and the left one of log_2_floor is
  * not 0. The left operand of pow is any word and is taken modulo U32_TABLE_P; in stored bytes it is below it. So a key of pow counts as its
@@ -155,11 +163,34 @@ enum {
  * keys. */
 
 /* Records an entry: the first equal key's multiplicity gains one, and its words stay as they are; else the key is appended, reduced, with
- * multiplicity 1.
+ * multiplicity 1 and no hold.
  * Answers: the key's position, from 0; the places used afterwards, which is what to pass as `used` from then on.
- * Refusals, in this order: SHAPE; STRANGER; WIDE; BARE_LOG; then COUNT_FULL or LIST_FULL. */
+ * Refusals, in this order: SHAPE; STRANGER; WIDE; BARE_LOG; then COUNT_FULL or LIST_FULL. COUNT_FULL looks at the first equal key's count plus holds. */
 uint64_t u32_table_record(size_t capacity, size_t used, uint64_t *keys, size_t key_words, uint64_t *multiplicities, size_t places,
-                          uint64_t opcode, uint64_t left_operand, uint64_t right_operand, uint64_t *answers, size_t answer_words);
+                          uint64_t *holds, size_t hold_places, uint64_t opcode, uint64_t left_operand, uint64_t right_operand, uint64_t *answers,
+                          size_t answer_words);
+
+/* A recording in two parts: a hold, then u32_table_confirm or u32_table_drop at the position that it answers. Holds an entry: the first equal key
+ * gains one hold, and its words and its multiplicity stay as they are; else the key is appended, reduced, with multiplicity 0 and one hold.
+ * From a list with no entries on, the multiplicity of a key is the number of its accepted confirms and recordings, those of replays among them.
+ * Answers: the key's position, from 0; the places used afterwards, which is what to pass as `used` from then on.
+ * Refusals, in this order: SHAPE; STRANGER; WIDE; BARE_LOG; then COUNT_FULL (count plus holds) or LIST_FULL. */
+uint64_t u32_table_hold(size_t capacity, size_t used, uint64_t *keys, size_t key_words, uint64_t *multiplicities, size_t places, uint64_t *holds,
+                        size_t hold_places, uint64_t opcode, uint64_t left_operand, uint64_t right_operand, uint64_t *answers,
+                        size_t answer_words);
+
+/* One hold at `position` becomes one count: the multiplicity there gains one, the holds lose one. `used` stays.
+ * It has no answers besides the number.
+ * Refusals, in this order: SHAPE; NO_HOLD (`position` is any number); COUNT_FULL, which no list meets whose holds u32_table_hold made. */
+uint64_t u32_table_confirm(size_t capacity, size_t used, const uint64_t *keys, size_t key_words, uint64_t *multiplicities, size_t places,
+                           uint64_t *holds, size_t hold_places, size_t position);
+
+/* One hold at `position` is no more: the holds there lose one. The key keeps its place, also with multiplicity 0: it is then filled, planned and
+ * written as any other, and can be recorded and held again.
+ * It has no answers besides the number.
+ * Refusals, in this order: SHAPE; NO_HOLD (`position` is any number). */
+uint64_t u32_table_drop(size_t capacity, size_t used, const uint64_t *keys, size_t key_words, const uint64_t *multiplicities, size_t places,
+                        uint64_t *holds, size_t hold_places, size_t position);
 
 /* Replays a trace onto a list: its steps, three words each (opcode, first value, second value), are recorded in order. Of a step is recorded
  *
@@ -174,9 +205,9 @@ uint64_t u32_table_record(size_t capacity, size_t used, uint64_t *keys, size_t k
  * the list is as the steps before it made it.
  * Answers, on a refusal too: the steps done; the places used afterwards, which is what to pass as `used` from then on.
  * Refusals, in this order: SHAPE (of the list, or trace_words is not whole steps), before all steps and with none done; then step by step STRANGER;
- * WIDE; ZERO_DIVISOR or BARE_LOG; then COUNT_FULL or LIST_FULL. For div_mod a refusal of lt comes before one of split. */
+ * WIDE; ZERO_DIVISOR or BARE_LOG; then COUNT_FULL (count plus holds) or LIST_FULL. For div_mod a refusal of lt comes before one of split. */
 uint64_t u32_table_replay(size_t capacity, size_t used, uint64_t *keys, size_t key_words, uint64_t *multiplicities, size_t places,
-                          const uint64_t *trace, size_t trace_words, uint64_t *answers, size_t answer_words);
+                          uint64_t *holds, size_t hold_places, const uint64_t *trace, size_t trace_words, uint64_t *answers, size_t answer_words);
 
 /* Compares two entries by opcode, then left operand, then right operand, whatever words they are, and as they are: two words of one base of pow
  * are not equal here.
@@ -188,12 +219,12 @@ uint64_t u32_table_compare(uint64_t opcode, uint64_t left_operand, uint64_t righ
 /* The rows that a list needs.
  * Answers: its height, the sum of its entries' heights; its padded height, the smallest power of two that is at least the height and at least
  * 256: all tables of one proof share it, and the byte lookup always has 256 rows. No entries: 0 and 256.
- * Refusals, in this order: SHAPE; then entry by entry STRANGER, WIDE, BARE_LOG, COUNT_FULL. */
+ * Refusals, in this order: SHAPE; OPEN_HOLD; then entry by entry STRANGER, WIDE, BARE_LOG, COUNT_FULL. */
 uint64_t u32_table_plan(size_t capacity, size_t used, const uint64_t *keys, size_t key_words, const uint64_t *multiplicities,
-                        size_t places, uint64_t *answers, size_t answer_words);
+                        size_t places, const uint64_t *holds, size_t hold_places, uint64_t *answers, size_t answer_words);
 
-/* Reads a stored list: its N entries replace the first N places, and later places keep their words. `used` is how many places were used
- * before; afterwards it is N.
+/* Reads a stored list: its N entries replace the first N places, which have no hold then, and later places keep their words and holds. `used` is
+ * how many places were used before; afterwards it is N. Open holds do not keep a list from being replaced.
  *
  * byte_count tells the form: U32_TABLE_STORED_BYTES(N), as u32_table_write writes it, or the old length 8 + 21 N, with multiplicities of 4
  * bytes. Any other length is TORN. A list that was read from the old form is written in the new one.
@@ -208,22 +239,24 @@ uint64_t u32_table_plan(size_t capacity, size_t used, const uint64_t *keys, size
  * Answers: N.
  * Refusals, in this order: SHAPE; TORN; LIST_FULL; then entry by entry STRANGER, WIDE, BARE_LOG, COUNT_FULL; REPEAT; TALLY. */
 uint64_t u32_table_read(const uint8_t *bytes, size_t byte_count, size_t capacity, size_t used, uint64_t *keys, size_t key_words,
-                        uint64_t *multiplicities, size_t places, uint64_t *answers, size_t answer_words);
+                        uint64_t *multiplicities, size_t places, uint64_t *holds, size_t hold_places, uint64_t *answers, size_t answer_words);
 
 /* Writes a list as bytes from the start of `out`: 4 bytes number of entries, 4 bytes height, then for each entry opcode (1 byte), left
  * operand (8), reduced for pow, and right operand (8), then the multiplicities (8 each), all little-endian. Bytes of `out` past the end keep
  * their values. Read again, the keys are the reduced ones.
  * Answers: the number of bytes written, U32_TABLE_STORED_BYTES(used).
- * Refusals, in this order: SHAPE; then entry by entry STRANGER, WIDE, BARE_LOG, COUNT_FULL; REPEAT; SHORT. */
+ * Refusals, in this order: SHAPE; OPEN_HOLD; then entry by entry STRANGER, WIDE, BARE_LOG, COUNT_FULL; REPEAT; SHORT. */
 uint64_t u32_table_write(size_t capacity, size_t used, const uint64_t *keys, size_t key_words, const uint64_t *multiplicities,
-                         size_t places, uint8_t *out, size_t byte_count, uint64_t *answers, size_t answer_words);
+                         size_t places, const uint64_t *holds, size_t hold_places, uint8_t *out, size_t byte_count, uint64_t *answers,
+                         size_t answer_words);
 
 /* Fills a table with the sections of the list's entries, in list order. `table` has ten words a row; rows past the height keep their words.
  * Answers: the height.
- * Refusals, in this order: SHAPE (of the list, or table_words is not whole rows or over 131,072 rows); then entry by entry STRANGER, WIDE,
- * BARE_LOG, COUNT_FULL; SHORT (fewer rows than the height). */
+ * Refusals, in this order: SHAPE (of the list, or table_words is not whole rows or over 131,072 rows); OPEN_HOLD; then entry by entry STRANGER,
+ * WIDE, BARE_LOG, COUNT_FULL; SHORT (fewer rows than the height). */
 uint64_t u32_table_fill(size_t capacity, size_t used, const uint64_t *keys, size_t key_words, const uint64_t *multiplicities,
-                        size_t places, uint64_t *table, size_t table_words, uint64_t *answers, size_t answer_words);
+                        size_t places, const uint64_t *holds, size_t hold_places, uint64_t *table, size_t table_words, uint64_t *answers,
+                        size_t answer_words);
 
 /* Pads a table: every row from row `filled` on becomes the padding row that belongs to the last filled row.
  * It has no answers besides the number.
@@ -262,8 +295,9 @@ uint64_t u32_table_check(const uint64_t *table, size_t table_words, const uint64
  *     pop_count               the one-bits of the left operand
  *     split                   0
  *
- * Where all requests are recorded onto a list with no entries, none is refused and no denominator is (0, 0, 0), this is the last sum that u32_table_fill,
- * u32_table_pad and u32_table_extend then make under the same challenges, with rows enough; and none of them refuses.
+ * Where all requests are recorded onto a list with no entries, at once or by hold and confirm, none is refused, no hold is open at the end and no
+ * denominator of a key at a used place is (0, 0, 0), this is the last sum that u32_table_fill, u32_table_pad and u32_table_extend then make under the same
+ * challenges, with rows enough; and none of them refuses. Keys of dropped holds alone are at used places too.
  * Answers: the three words of the sum, zero for no requests.
  * Refusals, in this order: SHAPE (request_words is not whole requests, or challenge_words is not 15); UNREDUCED (challenges); then request by request
  * STRANGER, WIDE, BARE_LOG, FLAT. */

@@ -407,9 +407,23 @@ def steps(sizes, recording, slices, numbers, count, mine, tokens, lifetimes, sai
 # ---- the thin functions
 
 
-def recorded(z, lists, numbers, answer, z_after, lists_after):
-    due = f"recordAll (u32List {z} {' '.join(lists)}) (entry {' '.join(numbers)})"
-    return f"Leaves ({due}) (recordedAnswer ({answer})) (u32List {z_after} {' '.join(lists_after)})"
+def recorded_by(rule):
+    """A recording or a hold: the rule's name is what tells them apart."""
+    def promise(z, lists, numbers, answer, z_after, lists_after):
+        due = f"{rule} (heldList {z} {' '.join(lists)}) (entry {' '.join(numbers)})"
+        return f"Leaves ({due}) (recordedAnswer ({answer})) (heldList {z_after} {' '.join(lists_after)})"
+    return promise
+
+
+def recording(function, rule):
+    return dict(crate='list_record', function=function, core=f'{function}_by_value',
+                home='list', sizes='Sizes', answer_home='list_record', answer='Recorded', recording='Recording', elements=['u64', 'u64', 'u64'],
+                given=[('opcode', 'u64'), ('lhs', 'u64'), ('rhs', 'u64')],
+                uses='use Rattle.isa.specs.Entries.{entry}\n'
+                     'use Rattle.list.specs.Holds.{heldList}\n'
+                     'use Rattle.words.specs.Outcomes.{Leaves}\n'
+                     f'use Rattle.list_record.specs.Recording.{{{rule}, recordedAnswer}}',
+                promise=recorded_by(rule))
 
 
 def looked_up(z, lists, numbers, answer, z_after, lists_after):
@@ -418,14 +432,8 @@ def looked_up(z, lists, numbers, answer, z_after, lists_after):
 
 
 FUNCTIONS = [
-    dict(crate='list_record', function='record_u32_table_entry', core='record_u32_table_entry_by_value',
-         home='list', sizes='Sizes', answer_home='list_record', answer='Recorded', recording='Recording', elements=['u64', 'u64'],
-         given=[('opcode', 'u64'), ('lhs', 'u64'), ('rhs', 'u64')],
-         uses='use Rattle.isa.specs.Entries.{entry}\n'
-              'use Rattle.list.specs.Lists.{u32List}\n'
-              'use Rattle.words.specs.Outcomes.{Leaves}\n'
-              'use Rattle.list_record.specs.Recording.{recordAll, recordedAnswer}',
-         promise=recorded),
+    recording('record_u32_table_entry', 'recordAll'),
+    recording('hold_u32_table_entry', 'holdAll'),
     dict(crate='lookup', function='increase_lookup_multiplicities_for_limb', core='increase_lookup_multiplicities_for_limb_by_value',
          home='list', sizes='Sizes', answer_home='words', answer='Completed', recording='LookupRecording', elements=['u16', 'u64', 'u64'],
          given=[('limb', 'u16')],

@@ -174,7 +174,7 @@ impl Inputs {
     }
 
     fn list(&self, n: usize) -> List {
-        List { keys: self.keys[..n].concat(), multiplicities: self.multiplicities[..n].to_vec() }
+        List::new(self.keys[..n].concat(), self.multiplicities[..n].to_vec())
     }
 
     fn trace(&self, n: usize) -> AlgebraicExecutionTrace {
@@ -367,6 +367,7 @@ impl Inputs {
         self.record("record, all entries, a hash map", &self.keys, runs);
         let one_lhs: Vec<_> = (0..n as u64).map(|rhs| [30, 2, rhs]).collect();
         self.record("record, as many keys with one LHS, a hash map", &one_lhs, runs);
+        self.two_parts(runs);
         self.replay(runs);
         self.client(runs);
         self.lookups(runs);
@@ -400,7 +401,7 @@ impl Inputs {
 
     /// The keys, one after the other, into an empty list.
     fn record(&self, name: &str, keys: &[[u64; 3]], runs: usize) {
-        let places = RefCell::new(List { keys: vec![0; 3 * keys.len()], multiplicities: vec![0; keys.len()] });
+        let places = RefCell::new(List::empty(keys.len()));
         let all = |library: &Library| {
             let used = keys.iter().fold(0, |used, &key| library.record(&mut places.borrow_mut(), used, key));
             assert_eq!(keys.len(), used);
@@ -426,6 +427,27 @@ impl Inputs {
         line(name, ours, theirs, EARLIER.map(|_| earlier));
     }
 
+    /// All entries in two parts, held and then confirmed, against their recordings.
+    fn two_parts(&self, runs: usize) {
+        let n = self.keys.len();
+        let (held, mut recorded) = (RefCell::new(List::empty(n)), List::empty(n));
+        let [hold, confirm, record] = best(
+            runs,
+            [
+                &mut || {
+                    let used = self.keys.iter().fold(0, |used, &key| port::hold(&mut held.borrow_mut(), used, key));
+                    assert_eq!(n, used);
+                },
+                &mut || (0..n).for_each(|position| port::confirm(&mut held.borrow_mut(), position)),
+                &mut || assert_eq!(n, self.keys.iter().fold(0, |used, &key| OURS.record(&mut recorded, used, key))),
+            ],
+        );
+        let held = held.into_inner();
+        assert!(held.keys == recorded.keys && held.multiplicities == recorded.multiplicities && held.holds == recorded.holds);
+        line("hold, all entries, against recording them", hold, record, None);
+        line("confirm, all of them, against recording them", confirm, record, None);
+    }
+
     /// A trace of a million steps of the ten opcodes, a thousand of them different, and the same entries recorded one by one: by our call, and into the
     /// original's hash map.
     fn replay(&self, runs: usize) {
@@ -449,8 +471,7 @@ impl Inputs {
                 _ => vec![[opcode, first, second]],
             })
             .collect();
-        let empty = || List { keys: vec![0; 3 * MOST_ENTRIES], multiplicities: vec![0; MOST_ENTRIES] };
-        let [mut replayed, mut recorded] = [empty(), empty()];
+        let [mut replayed, mut recorded] = [List::empty(MOST_ENTRIES), List::empty(MOST_ENTRIES)];
         let trace = steps.as_flattened();
         let [replay, record, theirs] = best(
             runs,

@@ -4,18 +4,62 @@ use u32_table_sys::probes;
 
 #[cfg(earlier)]
 mod earlier {
-    macro_rules! declare {
-        ($(fn $name:ident($($argument:ident: $type:ty),* $(,)?);)*) => {
-            #[allow(dead_code)]
-            unsafe extern "C" {
-                $(
-                    #[link_name = concat!("earlier_", stringify!($name))]
-                    pub fn $name($($argument: $type),*) -> u64;
-                )*
-            }
-        };
+    mod declared {
+        macro_rules! declare {
+            ($(fn $name:ident($($argument:ident: $type:ty),* $(,)?);)*) => {
+                #[allow(dead_code)]
+                unsafe extern "C" {
+                    $(
+                        #[link_name = concat!("earlier_", stringify!($name))]
+                        pub fn $name($($argument: $type),*) -> u64;
+                    )*
+                }
+            };
+        }
+        u32_table_sys::functions!(declare);
     }
-    u32_table_sys::functions!(declare);
+    pub use declared::*;
+
+    /// Of a library whose lists have no holds.
+    #[cfg(without_holds)]
+    #[allow(clippy::too_many_arguments)]
+    pub unsafe fn u32_table_record(
+        capacity: usize,
+        used: usize,
+        keys: *mut u64,
+        key_words: usize,
+        multiplicities: *mut u64,
+        places: usize,
+        _holds: *mut u64,
+        _hold_places: usize,
+        opcode: u64,
+        left_operand: u64,
+        right_operand: u64,
+        answers: *mut u64,
+        answer_words: usize,
+    ) -> u64 {
+        #[allow(clashing_extern_declarations)]
+        unsafe extern "C" {
+            #[link_name = "earlier_u32_table_record"]
+            fn record(
+                capacity: usize,
+                used: usize,
+                keys: *mut u64,
+                key_words: usize,
+                multiplicities: *mut u64,
+                places: usize,
+                opcode: u64,
+                left_operand: u64,
+                right_operand: u64,
+                answers: *mut u64,
+                answer_words: usize,
+            ) -> u64;
+        }
+        unsafe {
+            let key = [opcode, left_operand, right_operand];
+            record(capacity, used, keys, key_words, multiplicities, places, key[0], key[1], key[2], answers, answer_words)
+        }
+    }
 }
 
 /// The calls that are timed in two libraries.
@@ -54,6 +98,8 @@ macro_rules! library {
                         list.keys.as_mut_ptr(),
                         list.keys.len(),
                         list.multiplicities.as_mut_ptr(),
+                        capacity,
+                        list.holds.as_mut_ptr(),
                         capacity,
                         key[0],
                         key[1],
@@ -110,9 +156,20 @@ pub const EARLIER: Option<Library> = None;
 pub struct List {
     pub keys: Vec<u64>,
     pub multiplicities: Vec<u64>,
+    pub holds: Vec<u64>,
 }
 
 impl List {
+    /// A list with no hold.
+    pub fn new(keys: Vec<u64>, multiplicities: Vec<u64>) -> Self {
+        let holds = vec![0; multiplicities.len()];
+        Self { keys, multiplicities, holds }
+    }
+
+    pub fn empty(capacity: usize) -> Self {
+        Self::new(vec![0; 3 * capacity], vec![0; capacity])
+    }
+
     fn capacity(&self) -> usize {
         self.multiplicities.len()
     }
@@ -120,6 +177,47 @@ impl List {
 
 fn done(number: u64) {
     assert_eq!(0, number, "refused");
+}
+
+/// The places used afterwards.
+pub fn hold(list: &mut List, used: usize, key: [u64; 3]) -> usize {
+    let (mut answers, capacity) = ([0; 2], list.capacity());
+    done(unsafe {
+        c::u32_table_hold(
+            capacity,
+            used,
+            list.keys.as_mut_ptr(),
+            list.keys.len(),
+            list.multiplicities.as_mut_ptr(),
+            capacity,
+            list.holds.as_mut_ptr(),
+            capacity,
+            key[0],
+            key[1],
+            key[2],
+            answers.as_mut_ptr(),
+            2,
+        )
+    });
+    answers[1] as usize
+}
+
+/// Of a full list.
+pub fn confirm(list: &mut List, position: usize) {
+    let capacity = list.capacity();
+    done(unsafe {
+        c::u32_table_confirm(
+            capacity,
+            capacity,
+            list.keys.as_ptr(),
+            list.keys.len(),
+            list.multiplicities.as_mut_ptr(),
+            capacity,
+            list.holds.as_mut_ptr(),
+            capacity,
+            position,
+        )
+    });
 }
 
 /// The steps done and the places used afterwards.
@@ -132,6 +230,8 @@ pub fn replay(list: &mut List, used: usize, trace: &[u64]) -> [usize; 2] {
             list.keys.as_mut_ptr(),
             list.keys.len(),
             list.multiplicities.as_mut_ptr(),
+            capacity,
+            list.holds.as_mut_ptr(),
             capacity,
             trace.as_ptr(),
             trace.len(),
@@ -154,9 +254,10 @@ pub fn client_sum(requests: &[u64], challenges: &[u64]) -> [u64; 3] {
 /// Height and padded height.
 pub fn plan(list: &List) -> [usize; 2] {
     let (mut answers, capacity) = ([0; 2], list.capacity());
-    let (keys, multiplicities) = (list.keys.as_ptr(), list.multiplicities.as_ptr());
+    let (keys, multiplicities, holds) = (list.keys.as_ptr(), list.multiplicities.as_ptr(), list.holds.as_ptr());
+    let key_words = list.keys.len();
     done(unsafe {
-        c::u32_table_plan(capacity, capacity, keys, list.keys.len(), multiplicities, capacity, answers.as_mut_ptr(), 2)
+        c::u32_table_plan(capacity, capacity, keys, key_words, multiplicities, capacity, holds, capacity, answers.as_mut_ptr(), 2)
     });
     answers.map(|word| word as usize)
 }
@@ -172,6 +273,8 @@ pub fn read(bytes: &[u8], list: &mut List) -> usize {
             list.keys.as_mut_ptr(),
             list.keys.len(),
             list.multiplicities.as_mut_ptr(),
+            capacity,
+            list.holds.as_mut_ptr(),
             capacity,
             answers.as_mut_ptr(),
             1,
@@ -189,6 +292,8 @@ pub fn write(list: &List, out: &mut [u8]) -> usize {
             list.keys.as_ptr(),
             list.keys.len(),
             list.multiplicities.as_ptr(),
+            capacity,
+            list.holds.as_ptr(),
             capacity,
             out.as_mut_ptr(),
             out.len(),
@@ -208,6 +313,8 @@ pub fn fill(list: &List, table: &mut [u64]) -> usize {
             list.keys.as_ptr(),
             list.keys.len(),
             list.multiplicities.as_ptr(),
+            capacity,
+            list.holds.as_ptr(),
             capacity,
             table.as_mut_ptr(),
             table.len(),

@@ -18,16 +18,17 @@ static void expect(const char *what, uint64_t got, uint64_t wanted) {
 }
 
 /* ---- arrays with a copy, so that it can be seen what a call touched */
-static uint64_t keys[3 * PLACES], multiplicities[PLACES], table[10 * ROWS], aux[3 * ROWS], challenges[15], answers[WORDS];
+static uint64_t keys[3 * PLACES], multiplicities[PLACES], holds[PLACES], table[10 * ROWS], aux[3 * ROWS], challenges[15], answers[WORDS];
 static uint8_t bytes[256];
 static struct {
-    uint64_t keys[3 * PLACES], multiplicities[PLACES], table[10 * ROWS], aux[3 * ROWS], challenges[15];
+    uint64_t keys[3 * PLACES], multiplicities[PLACES], holds[PLACES], table[10 * ROWS], aux[3 * ROWS], challenges[15];
     uint8_t bytes[256];
 } copy;
 
 static void keep(void) {
     memcpy(copy.keys, keys, sizeof keys);
     memcpy(copy.multiplicities, multiplicities, sizeof multiplicities);
+    memcpy(copy.holds, holds, sizeof holds);
     memcpy(copy.table, table, sizeof table);
     memcpy(copy.aux, aux, sizeof aux);
     memcpy(copy.challenges, challenges, sizeof challenges);
@@ -37,6 +38,7 @@ static void keep(void) {
 
 static void lists_kept(const char *what) {
     expect(what, (uint64_t)(memcmp(copy.keys, keys, sizeof keys) | memcmp(copy.multiplicities, multiplicities, sizeof multiplicities)), 0);
+    expect(what, (uint64_t)memcmp(copy.holds, holds, sizeof holds), 0);
 }
 
 static void tables_kept(const char *what) {
@@ -63,22 +65,31 @@ static void refused(const char *what, uint64_t got, uint64_t wanted) {
 #define DONE(call, n, ...) (keep(), expect(#call, call, 0), answered(#call, n, (uint64_t[]){__VA_ARGS__}))
 
 static uint64_t record(size_t used, uint64_t opcode, uint64_t lhs, uint64_t rhs) {
-    return u32_table_record(PLACES, used, keys, 3 * PLACES, multiplicities, PLACES, opcode, lhs, rhs, answers, WORDS);
+    return u32_table_record(PLACES, used, keys, 3 * PLACES, multiplicities, PLACES, holds, PLACES, opcode, lhs, rhs, answers, WORDS);
+}
+static uint64_t hold(size_t used, uint64_t opcode, uint64_t lhs, uint64_t rhs) {
+    return u32_table_hold(PLACES, used, keys, 3 * PLACES, multiplicities, PLACES, holds, PLACES, opcode, lhs, rhs, answers, WORDS);
+}
+static uint64_t confirm(size_t used, size_t position) {
+    return u32_table_confirm(PLACES, used, keys, 3 * PLACES, multiplicities, PLACES, holds, PLACES, position);
+}
+static uint64_t drop(size_t used, size_t position) {
+    return u32_table_drop(PLACES, used, keys, 3 * PLACES, multiplicities, PLACES, holds, PLACES, position);
 }
 static uint64_t replay(size_t used, const uint64_t *trace, size_t words) {
-    return u32_table_replay(PLACES, used, keys, 3 * PLACES, multiplicities, PLACES, trace, words, answers, WORDS);
+    return u32_table_replay(PLACES, used, keys, 3 * PLACES, multiplicities, PLACES, holds, PLACES, trace, words, answers, WORDS);
 }
 static uint64_t plan(size_t used) {
-    return u32_table_plan(PLACES, used, keys, 3 * PLACES, multiplicities, PLACES, answers, WORDS);
+    return u32_table_plan(PLACES, used, keys, 3 * PLACES, multiplicities, PLACES, holds, PLACES, answers, WORDS);
 }
 static uint64_t read(size_t n) {
-    return u32_table_read(bytes, n, PLACES, 0, keys, 3 * PLACES, multiplicities, PLACES, answers, WORDS);
+    return u32_table_read(bytes, n, PLACES, 0, keys, 3 * PLACES, multiplicities, PLACES, holds, PLACES, answers, WORDS);
 }
 static uint64_t write(size_t used, size_t room) {
-    return u32_table_write(PLACES, used, keys, 3 * PLACES, multiplicities, PLACES, bytes, room, answers, WORDS);
+    return u32_table_write(PLACES, used, keys, 3 * PLACES, multiplicities, PLACES, holds, PLACES, bytes, room, answers, WORDS);
 }
 static uint64_t fill(size_t used, size_t rows) {
-    return u32_table_fill(PLACES, used, keys, 3 * PLACES, multiplicities, PLACES, table, 10 * rows, answers, WORDS);
+    return u32_table_fill(PLACES, used, keys, 3 * PLACES, multiplicities, PLACES, holds, PLACES, table, 10 * rows, answers, WORDS);
 }
 static uint64_t extend(size_t rows) { return u32_table_extend(table, 10 * rows, aux, 3 * rows, challenges, 15, answers, WORDS); }
 static uint64_t check(size_t rows) { return u32_table_check(table, 10 * rows, aux, 3 * rows, challenges, 15, answers, WORDS); }
@@ -91,6 +102,125 @@ static void put(int place, uint64_t opcode, uint64_t lhs, uint64_t rhs, uint64_t
     keys[3 * place] = opcode, keys[3 * place + 1] = lhs, keys[3 * place + 2] = rhs, multiplicities[place] = multiplicity;
 }
 
+/* place 0 has this count and these holds, and the other places are as they were */
+static void counted(const char *what, uint64_t count, uint64_t open) {
+    expect(what, multiplicities[0], count);
+    expect(what, holds[0], open);
+    expect(what, (uint64_t)(memcmp(copy.multiplicities + 1, multiplicities + 1, 8 * (PLACES - 1)) | memcmp(copy.holds + 1, holds + 1, 8 * (PLACES - 1))), 0);
+}
+#define COUNTED(call, count, open) (keep(), expect(#call, call, 0), answered(#call, 0, NULL), counted(#call, count, open))
+
+/* recordings in two parts */
+static void held(void) {
+    const uint64_t most = U32_TABLE_P - 1, pow2_32 = UINT64_C(1) << 32;
+    /* unused places have any words, and an append sets those of its own */
+    for (int i = 0; i < 3 * PLACES; i++) keys[i] = MARK;
+    for (int i = 0; i < PLACES; i++) multiplicities[i] = 9, holds[i] = 5;
+    REFUSED(confirm(0, 0), U32_TABLE_NO_HOLD);
+    REFUSED(drop(0, 0), U32_TABLE_NO_HOLD);
+    DONE(plan(0), 2, 0, 256);
+    DONE(hold(0, U32_TABLE_AND, 3, 1), 2, 0, 1);
+    counted("a new key", 0, 1);
+    expect("the key", keys[0] == 14 && keys[1] == 3 && keys[2] == 1 && keys[3] == MARK, 1);
+    DONE(hold(1, U32_TABLE_AND, 3, 1), 2, 0, 1);
+    counted("a known key", 0, 2);
+    DONE(record(1, U32_TABLE_AND, 3, 1), 2, 0, 1);
+    counted("a recording between", 1, 2);
+
+    /* while a hold is open: 15 directly after 1; confirm and drop one each; then 16, at any other position too */
+    REFUSED(plan(1), U32_TABLE_OPEN_HOLD);
+    REFUSED(write(1, 0), U32_TABLE_OPEN_HOLD);
+    REFUSED(fill(1, 0), U32_TABLE_OPEN_HOLD);
+    REFUSED(u32_table_fill(PLACES, 1, keys, 12, multiplicities, PLACES, holds, PLACES, table, 7, answers, WORDS), U32_TABLE_SHAPE);
+    COUNTED(confirm(1, 0), 2, 1);
+    COUNTED(drop(1, 0), 2, 0);
+    REFUSED(confirm(1, 0), U32_TABLE_NO_HOLD);
+    REFUSED(drop(1, 0), U32_TABLE_NO_HOLD);
+    REFUSED(confirm(1, 1), U32_TABLE_NO_HOLD);
+    REFUSED(drop(1, PLACES), U32_TABLE_NO_HOLD);
+    REFUSED(confirm(1, SIZE_MAX), U32_TABLE_NO_HOLD);
+    REFUSED(drop(1, SIZE_MAX), U32_TABLE_NO_HOLD);
+    DONE(plan(1), 2, 3, 256);
+    keys[0] = 5, holds[0] = 1;
+    REFUSED(plan(1), U32_TABLE_OPEN_HOLD);
+    COUNTED(drop(1, 0), 2, 0);
+    REFUSED(plan(1), U32_TABLE_STRANGER);
+    keys[0] = 14;
+
+    /* 1, by every length and size, before all else; also for confirm and drop, which look at no key */
+    REFUSED(hold(5, 5, 0, 0), U32_TABLE_SHAPE);
+    REFUSED(confirm(5, SIZE_MAX), U32_TABLE_SHAPE);
+    REFUSED(drop(5, SIZE_MAX), U32_TABLE_SHAPE);
+    REFUSED(u32_table_hold(PLACES, 1, keys, 12, multiplicities, PLACES, holds, PLACES, 14, 3, 1, answers, 1), U32_TABLE_SHAPE);
+    REFUSED(u32_table_hold(PLACES, 1, keys, 12, multiplicities, PLACES, holds, PLACES - 1, 5, 0, 0, answers, WORDS), U32_TABLE_SHAPE);
+    REFUSED(u32_table_record(PLACES, 1, keys, 12, multiplicities, PLACES, holds, PLACES - 1, 5, 0, 0, answers, WORDS), U32_TABLE_SHAPE);
+    STOPPED(u32_table_replay(PLACES, 1, keys, 12, multiplicities, PLACES, holds, PLACES - 1, NULL, 0, answers, WORDS), U32_TABLE_SHAPE, 0, 1);
+    REFUSED(u32_table_plan(PLACES, 1, keys, 12, multiplicities, PLACES, holds, PLACES - 1, answers, WORDS), U32_TABLE_SHAPE);
+    REFUSED(u32_table_read(NULL, 0, PLACES, 1, keys, 12, multiplicities, PLACES, holds, PLACES - 1, answers, WORDS), U32_TABLE_SHAPE);
+    REFUSED(u32_table_write(PLACES, 1, keys, 12, multiplicities, PLACES, holds, PLACES - 1, bytes, 256, answers, WORDS), U32_TABLE_SHAPE);
+    REFUSED(u32_table_fill(PLACES, 1, keys, 12, multiplicities, PLACES, holds, PLACES - 1, table, 160, answers, WORDS), U32_TABLE_SHAPE);
+    REFUSED(u32_table_confirm(PLACES, 1, keys, 12, multiplicities, PLACES, holds, PLACES - 1, 0), U32_TABLE_SHAPE);
+    REFUSED(u32_table_confirm(PLACES, 1, keys, 11, multiplicities, PLACES, holds, PLACES, 0), U32_TABLE_SHAPE);
+    REFUSED(u32_table_drop(PLACES, 1, keys, 12, multiplicities, PLACES - 1, holds, PLACES, 0), U32_TABLE_SHAPE);
+    REFUSED(u32_table_drop(PLACES, 1, keys, 12, multiplicities, PLACES, holds, PLACES - 1, 0), U32_TABLE_SHAPE);
+
+    /* hold's 2, 3, 4, 6 */
+    REFUSED(hold(1, 5, pow2_32, 0), U32_TABLE_STRANGER);
+    REFUSED(hold(1, U32_TABLE_LOG_2_FLOOR, 0, pow2_32), U32_TABLE_WIDE);
+    REFUSED(hold(1, U32_TABLE_LOG_2_FLOOR, 0, 0), U32_TABLE_BARE_LOG);
+    REFUSED(u32_table_hold(1, 1, keys, 3, multiplicities, 1, holds, 1, U32_TABLE_LT, 2, 3, answers, WORDS), U32_TABLE_LIST_FULL);
+
+    /* 5 by count plus holds, also where their sum passes 2^64; confirm's 5 after 16, on words that no hold made */
+    multiplicities[0] = most - 1;
+    DONE(hold(1, U32_TABLE_AND, 3, 1), 2, 0, 1);
+    REFUSED(hold(1, U32_TABLE_AND, 3, 1), U32_TABLE_COUNT_FULL);
+    REFUSED(record(1, U32_TABLE_AND, 3, 1), U32_TABLE_COUNT_FULL);
+    STOPPED(replay(1, (uint64_t[]){22, 3, 1}, 3), U32_TABLE_COUNT_FULL, 0, 1);
+    COUNTED(confirm(1, 0), most, 0);
+    REFUSED(hold(1, U32_TABLE_AND, 3, 1), U32_TABLE_COUNT_FULL);
+    REFUSED(confirm(1, 0), U32_TABLE_NO_HOLD);
+    holds[0] = 3;
+    REFUSED(confirm(1, 0), U32_TABLE_COUNT_FULL);
+    COUNTED(drop(1, 0), most, 2);
+    multiplicities[0] = pow2_32, holds[0] = UINT64_MAX - pow2_32 + 1;
+    REFUSED(record(1, U32_TABLE_AND, 3, 1), U32_TABLE_COUNT_FULL);
+    REFUSED(hold(1, U32_TABLE_AND, 3, 1), U32_TABLE_COUNT_FULL);
+    multiplicities[0] = holds[0] = UINT64_MAX;
+    REFUSED(record(1, U32_TABLE_AND, 3, 1), U32_TABLE_COUNT_FULL);
+    REFUSED(hold(1, U32_TABLE_AND, 3, 1), U32_TABLE_COUNT_FULL);
+    REFUSED(confirm(1, 0), U32_TABLE_COUNT_FULL);
+    COUNTED(drop(1, 0), UINT64_MAX, UINT64_MAX - 1);
+
+    /* pow: held raw and recorded reduced are one key */
+    DONE(hold(0, U32_TABLE_POW, U32_TABLE_P + 5, 3), 2, 0, 1);
+    DONE(record(1, U32_TABLE_POW, 5, 3), 2, 0, 1);
+    COUNTED(confirm(1, 0), 2, 0);
+    expect("reduced", keys[0] == 30 && keys[1] == 5 && keys[2] == 3, 1);
+
+    /* a key dropped back to 0 keeps its place and has a section: 3 rows, padded height 256 */
+    DONE(hold(0, U32_TABLE_AND, 3, 1), 2, 0, 1);
+    COUNTED(drop(1, 0), 0, 0);
+    DONE(plan(1), 2, 3, 256);
+    DONE(fill(1, 8), 1, 3);
+    expect("its multiplicity", table[0] == 1 && table[U32_TABLE_LOOKUP_MULTIPLICITY] == 0, 1);
+    expect("pad", u32_table_pad(table, 80, 3), 0);
+    for (int i = 0; i < 15; i++) challenges[i] = (uint64_t)(1000 + 77 * i);
+    DONE(extend(8), 3, 0, 0, 0);
+    DONE(check(8), 1, 0);
+
+    /* reading clears the holds of its N places and no others, and is not refused by a hold */
+    DONE(write(1, sizeof bytes), 1, U32_TABLE_STORED_BYTES(1));
+    for (int i = 0; i < PLACES; i++) holds[i] = 4;
+    DONE(read(U32_TABLE_STORED_BYTES(1)), 1, 1);
+    expect("cleared", holds[0] == 0 && holds[1] == 4 && holds[2] == 4 && holds[3] == 4, 1);
+    holds[0] = 1;
+    DONE(u32_table_read(bytes, 33, PLACES, 1, keys, 12, multiplicities, PLACES, holds, PLACES, answers, WORDS), 1, 1);
+    expect("cleared again", holds[0] == 0 && holds[1] == 4, 1);
+    bytes[0] = 9, holds[0] = 1;
+    REFUSED(read(U32_TABLE_STORED_BYTES(1)), U32_TABLE_TORN);
+    memset(holds, 0, sizeof holds), memset(keys, 0, sizeof keys), memset(multiplicities, 0, sizeof multiplicities), memset(bytes, 0, sizeof bytes);
+}
+
 static void lists(void) {
     const uint64_t pow2_32 = UINT64_C(1) << 32;
     /* recording: a new key, a known one, places, limits */
@@ -100,10 +230,10 @@ static void lists(void) {
     expect("keys", keys[0] == 14 && keys[1] == 3 && keys[2] == 1 && keys[3] == 6 && keys[4] == 2 && keys[5] == 3, 1);
     expect("multiplicities", multiplicities[0] == 2 && multiplicities[1] == 1, 1);
     REFUSED(record(5, 5, 0, 0), U32_TABLE_SHAPE);
-    REFUSED(u32_table_record(PLACES, 2, keys, 3 * PLACES - 1, multiplicities, PLACES, 4, 0, 0, answers, WORDS), U32_TABLE_SHAPE);
-    REFUSED(u32_table_record(PLACES, 2, keys, 3 * PLACES, multiplicities, PLACES - 1, 4, 0, 0, answers, WORDS), U32_TABLE_SHAPE);
-    REFUSED(u32_table_record(2049, 2, keys, 3 * PLACES, multiplicities, PLACES, 4, 0, 0, answers, WORDS), U32_TABLE_SHAPE);
-    REFUSED(u32_table_record(PLACES, 2, keys, 3 * PLACES, multiplicities, PLACES, 4, 0, 0, answers, 1), U32_TABLE_SHAPE);
+    REFUSED(u32_table_record(PLACES, 2, keys, 3 * PLACES - 1, multiplicities, PLACES, holds, PLACES, 4, 0, 0, answers, WORDS), U32_TABLE_SHAPE);
+    REFUSED(u32_table_record(PLACES, 2, keys, 3 * PLACES, multiplicities, PLACES - 1, holds, PLACES, 4, 0, 0, answers, WORDS), U32_TABLE_SHAPE);
+    REFUSED(u32_table_record(2049, 2, keys, 3 * PLACES, multiplicities, PLACES, holds, PLACES, 4, 0, 0, answers, WORDS), U32_TABLE_SHAPE);
+    REFUSED(u32_table_record(PLACES, 2, keys, 3 * PLACES, multiplicities, PLACES, holds, PLACES, 4, 0, 0, answers, 1), U32_TABLE_SHAPE);
     REFUSED(record(2, 5, pow2_32, 0), U32_TABLE_STRANGER);
     REFUSED(record(2, U32_TABLE_LOG_2_FLOOR, 0, pow2_32), U32_TABLE_WIDE);
     REFUSED(record(2, U32_TABLE_POW, U32_TABLE_P, pow2_32), U32_TABLE_WIDE);
@@ -155,7 +285,7 @@ static void lists(void) {
     STOPPED(replay(4, trace, 2), U32_TABLE_SHAPE, 0, 4);
     STOPPED(replay(5, trace, 0), U32_TABLE_SHAPE, 0, 5);
     lists_kept("refused steps keep the list");
-    REFUSED(u32_table_replay(PLACES, 0, keys, 3 * PLACES, multiplicities, PLACES, trace, 3, answers, 1), U32_TABLE_SHAPE);
+    REFUSED(u32_table_replay(PLACES, 0, keys, 3 * PLACES, multiplicities, PLACES, holds, PLACES, trace, 3, answers, 1), U32_TABLE_SHAPE);
     put(0, U32_TABLE_AND, 3, 1, 2), put(1, U32_TABLE_LT, 2, 3, 1);
     put(2, U32_TABLE_POW, U32_TABLE_P - 1, 5, 1), put(3, U32_TABLE_POP_COUNT, pow2_32 - 1, 0, 1);
 
@@ -169,7 +299,7 @@ static void lists(void) {
     DONE(plan(4), 2, 43, 256);
     DONE(plan(0), 2, 0, 256);
     REFUSED(plan(5), U32_TABLE_SHAPE);
-    REFUSED(u32_table_plan(PLACES, 4, keys, 3 * PLACES, multiplicities, PLACES, answers, 1), U32_TABLE_SHAPE);
+    REFUSED(u32_table_plan(PLACES, 4, keys, 3 * PLACES, multiplicities, PLACES, holds, PLACES, answers, 1), U32_TABLE_SHAPE);
     keys[3] = 7;
     REFUSED(plan(2), U32_TABLE_STRANGER);
     keys[3] = 6, keys[4] = pow2_32;
@@ -188,7 +318,7 @@ static void lists(void) {
     expect("first multiplicity", bytes[8 + 17 * 4], 2);
     expect("bytes past the end", bytes[8 + 25 * 4], MARK);
     REFUSED(write(5, sizeof bytes), U32_TABLE_SHAPE);
-    REFUSED(u32_table_write(PLACES, 4, keys, 3 * PLACES, multiplicities, PLACES, bytes, sizeof bytes, answers, 0), U32_TABLE_SHAPE);
+    REFUSED(u32_table_write(PLACES, 4, keys, 3 * PLACES, multiplicities, PLACES, holds, PLACES, bytes, sizeof bytes, answers, 0), U32_TABLE_SHAPE);
     REFUSED(write(4, U32_TABLE_STORED_BYTES(4) - 1), U32_TABLE_SHORT);
     multiplicities[0] = U32_TABLE_P;
     REFUSED(write(4, sizeof bytes), U32_TABLE_COUNT_FULL);
@@ -204,10 +334,10 @@ static void lists(void) {
     expect("read", keys[0] == 14 && keys[1] == 3 && keys[6] == 30 && keys[7] == U32_TABLE_P - 1 && multiplicities[0] == 2, 1);
     expect("places past N", keys[9] == MARK && multiplicities[3] == MARK, 1);
     const size_t full = U32_TABLE_STORED_BYTES(3), old = 8 + 21 * 3;
-    REFUSED(u32_table_read(bytes, full, PLACES, 5, keys, 3 * PLACES, multiplicities, PLACES, answers, WORDS), U32_TABLE_SHAPE);
-    REFUSED(u32_table_read(bytes, full, PLACES, 0, keys, 3 * PLACES, multiplicities, PLACES, answers, 0), U32_TABLE_SHAPE);
+    REFUSED(u32_table_read(bytes, full, PLACES, 5, keys, 3 * PLACES, multiplicities, PLACES, holds, PLACES, answers, WORDS), U32_TABLE_SHAPE);
+    REFUSED(u32_table_read(bytes, full, PLACES, 0, keys, 3 * PLACES, multiplicities, PLACES, holds, PLACES, answers, 0), U32_TABLE_SHAPE);
     REFUSED(read(full - 1), U32_TABLE_TORN);
-    REFUSED(u32_table_read(bytes, full, 2, 0, keys, 6, multiplicities, 2, answers, WORDS), U32_TABLE_LIST_FULL);
+    REFUSED(u32_table_read(bytes, full, 2, 0, keys, 6, multiplicities, 2, holds, 2, answers, WORDS), U32_TABLE_LIST_FULL);
     bytes[8] = 5;
     REFUSED(read(full), U32_TABLE_STRANGER);
     bytes[8] = 14, bytes[9 + 7] = 1;
@@ -246,8 +376,8 @@ static void tables(void) {
 
     /* filling: 3 + 3 + 4 + 1 rows */
     REFUSED(fill(5, 16), U32_TABLE_SHAPE);
-    REFUSED(u32_table_fill(PLACES, 4, keys, 12, multiplicities, PLACES, table, 159, answers, WORDS), U32_TABLE_SHAPE);
-    REFUSED(u32_table_fill(PLACES, 4, keys, 12, multiplicities, PLACES, table, 160, answers, 0), U32_TABLE_SHAPE);
+    REFUSED(u32_table_fill(PLACES, 4, keys, 12, multiplicities, PLACES, holds, PLACES, table, 159, answers, WORDS), U32_TABLE_SHAPE);
+    REFUSED(u32_table_fill(PLACES, 4, keys, 12, multiplicities, PLACES, holds, PLACES, table, 160, answers, 0), U32_TABLE_SHAPE);
     keys[3] = 7;
     REFUSED(fill(4, 16), U32_TABLE_STRANGER);
     keys[3] = 6, keys[5] = UINT64_C(1) << 32;
@@ -610,13 +740,16 @@ static void no_arrays(void) {
     REFUSED(u32_table_client_sum(NULL, 0, NULL, 0, answers, WORDS), U32_TABLE_SHAPE);
     REFUSED(u32_table_client_sum(NULL, 0, NULL, 0, NULL, 0), U32_TABLE_SHAPE);
     DONE(u32_table_batches(NULL, 0, 1, NULL, 0, answers, WORDS), 2, 0, 0);
-    DONE(u32_table_plan(0, 0, NULL, 0, NULL, 0, answers, WORDS), 2, 0, 256);
-    REFUSED(u32_table_record(0, 0, NULL, 0, NULL, 0, U32_TABLE_AND, 3, 1, answers, WORDS), U32_TABLE_LIST_FULL);
-    REFUSED(u32_table_read(NULL, 0, 0, 0, NULL, 0, NULL, 0, answers, WORDS), U32_TABLE_TORN);
-    REFUSED(u32_table_write(0, 0, NULL, 0, NULL, 0, NULL, 0, answers, WORDS), U32_TABLE_SHORT);
-    DONE(u32_table_write(0, 0, NULL, 0, NULL, 0, bytes, sizeof bytes, answers, WORDS), 1, 8);
-    DONE(u32_table_read(bytes, 8, 0, 0, NULL, 0, NULL, 0, answers, WORDS), 1, 0);
-    DONE(u32_table_fill(0, 0, NULL, 0, NULL, 0, NULL, 0, answers, WORDS), 1, 0);
+    DONE(u32_table_plan(0, 0, NULL, 0, NULL, 0, NULL, 0, answers, WORDS), 2, 0, 256);
+    REFUSED(u32_table_record(0, 0, NULL, 0, NULL, 0, NULL, 0, U32_TABLE_AND, 3, 1, answers, WORDS), U32_TABLE_LIST_FULL);
+    REFUSED(u32_table_read(NULL, 0, 0, 0, NULL, 0, NULL, 0, NULL, 0, answers, WORDS), U32_TABLE_TORN);
+    REFUSED(u32_table_write(0, 0, NULL, 0, NULL, 0, NULL, 0, NULL, 0, answers, WORDS), U32_TABLE_SHORT);
+    DONE(u32_table_write(0, 0, NULL, 0, NULL, 0, NULL, 0, bytes, sizeof bytes, answers, WORDS), 1, 8);
+    DONE(u32_table_read(bytes, 8, 0, 0, NULL, 0, NULL, 0, NULL, 0, answers, WORDS), 1, 0);
+    DONE(u32_table_fill(0, 0, NULL, 0, NULL, 0, NULL, 0, NULL, 0, answers, WORDS), 1, 0);
+    REFUSED(u32_table_hold(0, 0, NULL, 0, NULL, 0, NULL, 0, U32_TABLE_AND, 3, 1, answers, WORDS), U32_TABLE_LIST_FULL);
+    REFUSED(u32_table_confirm(0, 0, NULL, 0, NULL, 0, NULL, 0, 0), U32_TABLE_NO_HOLD);
+    REFUSED(u32_table_drop(0, 0, NULL, 0, NULL, 0, NULL, 0, 0), U32_TABLE_NO_HOLD);
     expect("pad of no rows", u32_table_pad(NULL, 0, 0), 0);
     REFUSED(u32_table_pad(NULL, 0, 1), U32_TABLE_SHORT);
     DONE(u32_table_extend(NULL, 0, NULL, 0, challenges, 15, answers, WORDS), 3, 0, 0, 0);
@@ -624,18 +757,20 @@ static void no_arrays(void) {
     REFUSED(u32_table_check(NULL, 0, NULL, 0, challenges, 15, answers, WORDS), U32_TABLE_SHORT);
     REFUSED(u32_table_check(NULL, 0, NULL, 0, NULL, 0, answers, WORDS), U32_TABLE_SHAPE);
     /* and so for `answers`, which is too short then */
-    REFUSED(u32_table_record(0, 0, NULL, 0, NULL, 0, 4, 0, 0, NULL, 0), U32_TABLE_SHAPE);
+    REFUSED(u32_table_record(0, 0, NULL, 0, NULL, 0, NULL, 0, 4, 0, 0, NULL, 0), U32_TABLE_SHAPE);
+    REFUSED(u32_table_hold(0, 0, NULL, 0, NULL, 0, NULL, 0, 4, 0, 0, NULL, 0), U32_TABLE_SHAPE);
     REFUSED(u32_table_compare(4, 0, 0, 4, 0, 0, NULL, 0), U32_TABLE_SHAPE);
-    REFUSED(u32_table_plan(0, 0, NULL, 0, NULL, 0, NULL, 0), U32_TABLE_SHAPE);
-    REFUSED(u32_table_read(NULL, 0, 0, 0, NULL, 0, NULL, 0, NULL, 0), U32_TABLE_SHAPE);
-    REFUSED(u32_table_write(0, 0, NULL, 0, NULL, 0, NULL, 0, NULL, 0), U32_TABLE_SHAPE);
-    REFUSED(u32_table_fill(0, 0, NULL, 0, NULL, 0, NULL, 0, NULL, 0), U32_TABLE_SHAPE);
+    REFUSED(u32_table_plan(0, 0, NULL, 0, NULL, 0, NULL, 0, NULL, 0), U32_TABLE_SHAPE);
+    REFUSED(u32_table_read(NULL, 0, 0, 0, NULL, 0, NULL, 0, NULL, 0, NULL, 0), U32_TABLE_SHAPE);
+    REFUSED(u32_table_write(0, 0, NULL, 0, NULL, 0, NULL, 0, NULL, 0, NULL, 0), U32_TABLE_SHAPE);
+    REFUSED(u32_table_fill(0, 0, NULL, 0, NULL, 0, NULL, 0, NULL, 0, NULL, 0), U32_TABLE_SHAPE);
     REFUSED(u32_table_extend(NULL, 0, NULL, 0, NULL, 0, NULL, 0), U32_TABLE_SHAPE);
     REFUSED(u32_table_check(NULL, 0, NULL, 0, NULL, 0, NULL, 0), U32_TABLE_SHAPE);
 }
 
 int main(void) {
-    expect("the number of the signatures", u32_table_abi_1(), 1);
+    expect("the number of the signatures", u32_table_abi_2(), 2);
+    held();
     lists();
     tables();
     client_sums();

@@ -1,4 +1,4 @@
-/* From two instructions to a verdict. In the repository: rt staticlib u32_table, then
+/* From two instructions to a verdict; the second is held and confirmed. In the repository: rt staticlib u32_table, then
  *     cc -Iinclude tests/ffi/example.c target/staticlib/libu32_table.a -o example && ./example */
 #include <inttypes.h>
 #include <stdio.h>
@@ -6,13 +6,14 @@
 #include "u32_table.h"
 
 enum { PLACES = 16, ROWS = 256 };
-static uint64_t keys[3 * PLACES], counts[PLACES], table[10 * ROWS], aux[3 * ROWS], answers[7], challenges[15] = {1};
+static uint64_t keys[3 * PLACES], counts[PLACES], holds[PLACES], table[10 * ROWS], aux[3 * ROWS], answers[7], challenges[15] = {1};
 
 int main(void) {
-    u32_table_record(PLACES, 0, keys, 3 * PLACES, counts, PLACES, U32_TABLE_AND, 3, 1, answers, 7);
-    u32_table_record(PLACES, answers[1], keys, 3 * PLACES, counts, PLACES, U32_TABLE_LT, 2, 3, answers, 7);
-    size_t used = answers[1];
-    uint64_t refused = u32_table_fill(PLACES, used, keys, 3 * PLACES, counts, PLACES, table, 10 * ROWS, answers, 7);
+    u32_table_record(PLACES, 0, keys, 3 * PLACES, counts, PLACES, holds, PLACES, U32_TABLE_AND, 3, 1, answers, 7);
+    u32_table_hold(PLACES, answers[1], keys, 3 * PLACES, counts, PLACES, holds, PLACES, U32_TABLE_LT, 2, 3, answers, 7);
+    size_t position = answers[0], used = answers[1];
+    uint64_t refused = u32_table_confirm(PLACES, used, keys, 3 * PLACES, counts, PLACES, holds, PLACES, position);
+    if (!refused) refused = u32_table_fill(PLACES, used, keys, 3 * PLACES, counts, PLACES, holds, PLACES, table, 10 * ROWS, answers, 7);
     if (!refused) refused = u32_table_pad(table, 10 * ROWS, answers[0]);
     if (!refused) refused = u32_table_extend(table, 10 * ROWS, aux, 3 * ROWS, challenges, 15, answers, 7);
     if (!refused) printf("sum %" PRIu64 " %" PRIu64 " %" PRIu64 "\n", answers[0], answers[1], answers[2]);

@@ -2,7 +2,8 @@
 """Runs call vectors through the C functions: tests/ffi/vectors.py LIBRARY.so FILE.jsonl ..
 
 Each vector is made twice: with `answers` two words longer than stated, of which the last two must stay as they were, and with one word
-too few, which must give 1 and change nothing. The number, the answers and every array are compared. Of each file and call the first vector that is
+too few, which must give 1 and change nothing. The number, the answers and every array are compared. Where a vector of an earlier request names no holds,
+they are lent as zeros, one a place, and must stay so. Of each file and call the first vector that is
 done and the first that is refused are then made wrong in each number that is due, one at a time, and each of these must be told apart. Prints how many
 vectors of each call had each number, and ends with status 1 where anything differs, or a wrong vector does not.
 """
@@ -13,18 +14,20 @@ import json
 import sys
 
 MARK = 7777
-STATED = {"record": 2, "replay": 2, "compare": 1, "plan": 2, "read": 1, "write": 1, "fill": 1, "pad": 0, "extend": 3, "check": 7,
-          "client_sum": 3, "batches": 2, "cascade_record": 1, "byte_sum": 3, "cascade_sum": 3,
-          "archive": 0, "unarchive": 0}
+STATED = {"record": 2, "hold": 2, "confirm": 0, "drop": 0, "replay": 2, "compare": 1, "plan": 2, "read": 1, "write": 1, "fill": 1, "pad": 0, "extend": 3, "check": 7,
+          "client_sum": 3, "batches": 2, "cascade_record": 1, "byte_sum": 3, "cascade_sum": 3, "archive": 0, "unarchive": 0}
 # the arguments in order: numbers by name, arrays in brackets
 ARGUMENTS = {
-    "record": "capacity used [keys] [mults] entry",
-    "replay": "capacity used [keys] [mults] [trace]",
+    "record": "capacity used [keys] [mults] [holds] entry",
+    "hold": "capacity used [keys] [mults] [holds] entry",
+    "confirm": "capacity used [keys] [mults] [holds] position",
+    "drop": "capacity used [keys] [mults] [holds] position",
+    "replay": "capacity used [keys] [mults] [holds] [trace]",
     "compare": "a b",
-    "plan": "capacity used [keys] [mults]",
-    "read": "[bytes] capacity used [keys] [mults]",
-    "write": "capacity used [keys] [mults] [out]",
-    "fill": "capacity used [keys] [mults] [table]",
+    "plan": "capacity used [keys] [mults] [holds]",
+    "read": "[bytes] capacity used [keys] [mults] [holds]",
+    "write": "capacity used [keys] [mults] [holds] [out]",
+    "fill": "capacity used [keys] [mults] [holds] [table]",
     "pad": "[table] filled",
     "extend": "[table] [aux] [challenges]",
     "check": "[table] [aux] [challenges]",
@@ -38,6 +41,13 @@ ARGUMENTS = {
 }
 NAMES = {"cascade_record": "look_up", "unarchive": "restore"}  # of the C function, where it is another
 CASCADES = ("cascade_record", "cascade_sum")  # their keys have 16 bits
+
+
+def with_holds(vector):
+    """The vector with holds of zeros, where its call is lent a list and it names none."""
+    if "[holds]" in ARGUMENTS[vector["call"]] and "holds" not in vector["in"]:
+        vector["in"]["holds"] = ["0"] * len(vector["in"]["mults"])
+    return vector
 
 
 def numbers(value):
@@ -88,7 +98,7 @@ def wanted(vector):
     kind, value = vector["answer"]
     if kind == "refused":
         return int(value), []
-    if call == "record":
+    if call in ("record", "hold"):
         return 0, [int(value), int(vector["after"]["used"])]
     if call == "compare":
         return 0, [{"-1": 0, "0": 1, "1": 2}[value]]
@@ -144,6 +154,7 @@ def main():
             call = vector["call"]
             if call not in STATED:
                 continue
+            with_holds(vector)
             number, difference = differs(library, vector)
             if difference:
                 differ += 1

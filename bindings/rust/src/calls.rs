@@ -1,4 +1,4 @@
-//! The eleven calls over slices.
+//! The fourteen calls over slices.
 use std::cmp::Ordering;
 use std::error::Error;
 use std::fmt;
@@ -48,7 +48,7 @@ impl PartialOrd for Entry {
     }
 }
 
-/// How many places a list has, and how many of them hold an entry: the first `used`.
+/// How many places a list has, and how many of them have an entry: the first `used`.
 #[derive(Clone, Copy, Debug, PartialEq, Eq, Hash)]
 pub struct Sizes {
     /// All places.
@@ -222,29 +222,113 @@ pub fn compare(entry: Entry, other: Entry) -> Ordering {
     }
 }
 
-/// Records an entry: the first equal key's multiplicity gains one; else the key is appended with multiplicity 1, and `sizes.used` is one
+/// Records an entry: the first equal key's multiplicity gains one; else the key is appended with multiplicity 1 and no hold, and `sizes.used` is one
 /// more. The answer is the key's position, from 0.
 ///
 /// The left operand of pow is taken modulo [`P`](crate::P), in the entry and in the keys: two words of one base are one key, what is appended is
 /// below [`P`](crate::P), and a key that gains keeps its words.
 ///
-/// Refusals, in this order: shape, stranger, wide, bare log, then count full or list full.
+/// Refusals, in this order: shape, stranger, wide, bare log, then count full or list full. Count full looks at the first equal key's count plus holds.
 ///
 /// ```
 /// use u32_table::{opcodes::{AND, POW}, record, Entry, Sizes, P};
-/// let (mut sizes, mut keys, mut multiplicities) = (Sizes { capacity: 2, used: 0 }, [0; 6], [0; 2]);
-/// assert_eq!(record(&mut sizes, &mut keys, &mut multiplicities, Entry::new(AND, 3, 1)), Ok(0));
-/// assert_eq!(record(&mut sizes, &mut keys, &mut multiplicities, Entry::new(AND, 3, 1)), Ok(0));
-/// assert_eq!((sizes.used, keys, multiplicities), (1, [14, 3, 1, 0, 0, 0], [2, 0]));
-/// assert_eq!(record(&mut sizes, &mut keys, &mut multiplicities, Entry::new(POW, P + 5, 2)), Ok(1));
-/// assert_eq!(record(&mut sizes, &mut keys, &mut multiplicities, Entry::new(POW, 5, 2)), Ok(1));
+/// let (mut sizes, mut keys, mut multiplicities, mut holds) = (Sizes { capacity: 2, used: 0 }, [0; 6], [0; 2], [0; 2]);
+/// let mut record = |entry| record(&mut sizes, &mut keys, &mut multiplicities, &mut holds, entry);
+/// assert_eq!(record(Entry::new(AND, 3, 1)), Ok(0));
+/// assert_eq!(record(Entry::new(AND, 3, 1)), Ok(0));
+/// assert_eq!(record(Entry::new(POW, P + 5, 2)), Ok(1));
+/// assert_eq!(record(Entry::new(POW, 5, 2)), Ok(1));
 /// assert_eq!((sizes.used, keys, multiplicities), (2, [14, 3, 1, 30, 5, 2], [2, 2]));
 /// ```
-pub fn record(sizes: &mut Sizes, keys: &mut [u64], multiplicities: &mut [u64], entry: Entry) -> Result<usize, Refusal> {
+pub fn record(
+    sizes: &mut Sizes,
+    keys: &mut [u64],
+    multiplicities: &mut [u64],
+    holds: &mut [u64],
+    entry: Entry,
+) -> Result<usize, Refusal> {
     let mut answers = [0; 2];
-    done(sys::record(sizes.numbers(), keys, multiplicities, entry.words(), &mut answers))?;
+    done(sys::record(sizes.numbers(), keys, multiplicities, holds, entry.words(), &mut answers))?;
     sizes.used = answers[1] as usize;
     Ok(answers[0] as usize)
+}
+
+/// Records an entry in two parts: this is the first, and [`confirm`] or [`drop_hold`] at the position that it answers is the second. The first equal
+/// key gains one hold; else the key is appended with multiplicity 0 and one hold, and `sizes.used` is one more. The answer is the key's position, from 0.
+///
+/// While a hold is open at a used place, [`plan`], [`fill`] and [`write()`] refuse the list. From a list with no entries on, the multiplicity of a key
+/// is the number of its accepted confirms and recordings, those of replays among them.
+///
+/// The left operand of pow is taken as [`record`] takes it.
+///
+/// Refusals, in this order: shape, stranger, wide, bare log, then count full (count plus holds) or list full.
+///
+/// ```
+/// use u32_table::{confirm, drop_hold, hold, opcodes::AND, plan, Entry, Refusal, Sizes};
+/// let (mut sizes, mut keys, mut multiplicities, mut holds) = (Sizes { capacity: 2, used: 0 }, [0; 6], [0; 2], [0; 2]);
+/// for held in 1..=2 {
+///     assert_eq!(hold(&mut sizes, &mut keys, &mut multiplicities, &mut holds, Entry::new(AND, 3, 1)), Ok(0));
+///     assert_eq!((sizes.used, multiplicities[0], holds[0]), (1, 0, held));
+/// }
+/// assert_eq!(plan(sizes, &keys, &multiplicities, &holds), Err(Refusal::OpenHold));
+///
+/// assert_eq!(confirm(sizes, &keys, &mut multiplicities, &mut holds, 0), Ok(()));
+/// assert_eq!(drop_hold(sizes, &keys, &multiplicities, &mut holds, 0), Ok(()));
+/// assert_eq!((multiplicities[0], holds[0]), (1, 0));
+/// assert_eq!(confirm(sizes, &keys, &mut multiplicities, &mut holds, 0), Err(Refusal::NoHold));
+/// assert!(plan(sizes, &keys, &multiplicities, &holds).is_ok());
+/// ```
+pub fn hold(
+    sizes: &mut Sizes,
+    keys: &mut [u64],
+    multiplicities: &mut [u64],
+    holds: &mut [u64],
+    entry: Entry,
+) -> Result<usize, Refusal> {
+    let mut answers = [0; 2];
+    done(sys::hold(sizes.numbers(), keys, multiplicities, holds, entry.words(), &mut answers))?;
+    sizes.used = answers[1] as usize;
+    Ok(answers[0] as usize)
+}
+
+/// One hold at the position becomes one count: the multiplicity there gains one, the holds lose one.
+///
+/// Refusals, in this order: shape; no hold, where the position is not used or has none; count full, which no list meets whose holds [`hold`] made.
+///
+/// ```
+/// use u32_table::{confirm, opcodes::AND, Refusal, Sizes};
+/// let (sizes, keys) = (Sizes { capacity: 2, used: 1 }, [AND, 3, 1, 0, 0, 0]);
+/// let (mut multiplicities, mut holds) = ([7, 0], [1, 1]);
+/// assert_eq!(confirm(sizes, &keys, &mut multiplicities, &mut holds, 0), Ok(()));
+/// assert_eq!((multiplicities, holds), ([8, 0], [0, 1]));
+/// for position in [0, 1, 2, usize::MAX] {
+///     assert_eq!(confirm(sizes, &keys, &mut multiplicities, &mut holds, position), Err(Refusal::NoHold));
+/// }
+/// ```
+pub fn confirm(
+    sizes: Sizes,
+    keys: &[u64],
+    multiplicities: &mut [u64],
+    holds: &mut [u64],
+    position: usize,
+) -> Result<(), Refusal> {
+    done(sys::confirm(sizes.numbers(), keys, multiplicities, holds, position))
+}
+
+/// One hold at the position is no more: the holds there lose one. The key keeps its place, also with multiplicity 0: it is then planned, filled and
+/// written as any other, and can be recorded and held again.
+///
+/// Refusals, in this order: shape; no hold, where the position is not used or has none.
+///
+/// ```
+/// use u32_table::{drop_hold, opcodes::AND, plan, Plan, Refusal, Sizes};
+/// let (sizes, keys, mut holds) = (Sizes { capacity: 1, used: 1 }, [AND, 3, 1], [1]);
+/// assert_eq!(drop_hold(sizes, &keys, &[0], &mut holds, 0), Ok(()));
+/// assert_eq!(drop_hold(sizes, &keys, &[0], &mut holds, 0), Err(Refusal::NoHold));
+/// assert_eq!(plan(sizes, &keys, &[0], &holds), Ok(Plan { height: 3, padded_height: 256 }));
+/// ```
+pub fn drop_hold(sizes: Sizes, keys: &[u64], multiplicities: &[u64], holds: &mut [u64], position: usize) -> Result<(), Refusal> {
+    done(sys::drop_hold(sizes.numbers(), keys, multiplicities, holds, position))
 }
 
 /// Replays a trace onto a list: its steps, three words each (opcode, first value, second value), are recorded in order. The answer is how many.
@@ -264,20 +348,26 @@ pub fn record(sizes: &mut Sizes, keys: &mut [u64], multiplicities: &mut [u64], e
 /// are and why the next one is refused.
 ///
 /// Refusals, in this order: shape (of the list, or the trace is not of whole steps), before all steps and with none done; then step by step stranger;
-/// wide; zero divisor or bare log; then count full or list full. For div_mod a refusal of lt comes before one of split.
+/// wide; zero divisor or bare log; then count full (count plus holds) or list full. For div_mod a refusal of lt comes before one of split.
 ///
 /// ```
 /// use u32_table::{opcodes::{AND, LT, SPLIT}, replay, steps::{DIV_MOD, XOR}, Refusal, Sizes, Stopped};
-/// let (mut sizes, mut keys, mut multiplicities) = (Sizes { capacity: 3, used: 0 }, [0; 9], [0; 3]);
+/// let (mut sizes, mut keys, mut multiplicities, mut holds) = (Sizes { capacity: 3, used: 0 }, [0; 9], [0; 3], [0; 3]);
 /// let trace = [XOR, 3, 1, DIV_MOD, 7, 2, AND, 3, 1, DIV_MOD, 7, 0, XOR, 3, 1];
-/// let stopped = replay(&mut sizes, &mut keys, &mut multiplicities, &trace);
+/// let stopped = replay(&mut sizes, &mut keys, &mut multiplicities, &mut holds, &trace);
 /// assert_eq!(stopped, Err(Stopped { refusal: Refusal::ZeroDivisor, done: 3 }));
 /// assert_eq!((sizes.used, keys), (3, [AND, 3, 1, LT, 1, 2, SPLIT, 7, 3]));
 /// assert_eq!(multiplicities, [2, 1, 1]);
 /// ```
-pub fn replay(sizes: &mut Sizes, keys: &mut [u64], multiplicities: &mut [u64], trace: &[u64]) -> Result<usize, Stopped> {
+pub fn replay(
+    sizes: &mut Sizes,
+    keys: &mut [u64],
+    multiplicities: &mut [u64],
+    holds: &mut [u64],
+    trace: &[u64],
+) -> Result<usize, Stopped> {
     let mut answers = [0; 2];
-    let number = sys::replay(sizes.numbers(), keys, multiplicities, trace, &mut answers);
+    let number = sys::replay(sizes.numbers(), keys, multiplicities, holds, trace, &mut answers);
     let steps = answers[0] as usize;
     sizes.used = answers[1] as usize;
     done(number).map(|()| steps).map_err(|refusal| Stopped { refusal, done: steps })
@@ -285,16 +375,17 @@ pub fn replay(sizes: &mut Sizes, keys: &mut [u64], multiplicities: &mut [u64], t
 
 /// The rows that a list needs.
 ///
-/// Refusals, in this order: shape; then entry by entry stranger, wide, bare log, count full.
+/// Refusals, in this order: shape; open hold; then entry by entry stranger, wide, bare log, count full.
 ///
 /// ```
-/// use u32_table::{opcodes::AND, plan, Plan, Sizes};
+/// use u32_table::{opcodes::AND, plan, Plan, Refusal, Sizes};
 /// let sizes = Sizes { capacity: 1, used: 1 };
-/// assert_eq!(plan(sizes, &[AND, 3, 1], &[2]), Ok(Plan { height: 3, padded_height: 256 }));
+/// assert_eq!(plan(sizes, &[AND, 3, 1], &[2], &[0]), Ok(Plan { height: 3, padded_height: 256 }));
+/// assert_eq!(plan(sizes, &[AND, 3, 1], &[2], &[1]), Err(Refusal::OpenHold));
 /// ```
-pub fn plan(sizes: Sizes, keys: &[u64], multiplicities: &[u64]) -> Result<Plan, Refusal> {
+pub fn plan(sizes: Sizes, keys: &[u64], multiplicities: &[u64], holds: &[u64]) -> Result<Plan, Refusal> {
     let mut answers = [0; 2];
-    done(sys::plan(sizes.numbers(), keys, multiplicities, &mut answers))?;
+    done(sys::plan(sizes.numbers(), keys, multiplicities, holds, &mut answers))?;
     Ok(Plan { height: answers[0] as usize, padded_height: answers[1] as usize })
 }
 
@@ -303,23 +394,24 @@ pub fn plan(sizes: Sizes, keys: &[u64], multiplicities: &[u64]) -> Result<Plan, 
 ///
 /// ```
 /// use u32_table::{opcodes::AND, plan, refused_entry, Refusal, Sizes};
-/// let (sizes, keys) = (Sizes { capacity: 2, used: 2 }, [AND, 3, 1, 5, 0, 0]);
-/// assert_eq!(plan(sizes, &keys, &[1, 1]), Err(Refusal::Stranger));
-/// assert_eq!(refused_entry(sizes, &keys, &[1, 1]), Some((1, Refusal::Stranger)));
+/// let (sizes, keys) = (Sizes { capacity: 2, used: 2 }, [5, 0, 0, AND, 3, 1]);
+/// assert_eq!(plan(sizes, &keys, &[1, 1], &[0, 0]), Err(Refusal::Stranger));
+/// assert_eq!(refused_entry(sizes, &keys, &[1, 1], &[0, 0]), Some((0, Refusal::Stranger)));
+/// // an open hold comes before the other reasons, wherever it is
+/// assert_eq!(refused_entry(sizes, &keys, &[1, 1], &[0, 1]), Some((1, Refusal::OpenHold)));
 /// ```
-pub fn refused_entry(sizes: Sizes, keys: &[u64], multiplicities: &[u64]) -> Option<(usize, Refusal)> {
+pub fn refused_entry(sizes: Sizes, keys: &[u64], multiplicities: &[u64], holds: &[u64]) -> Option<(usize, Refusal)> {
+    let reason = plan(sizes, keys, multiplicities, holds).err().filter(|reason| *reason != Refusal::Shape)?;
     // each entry by itself, as a list of one
     let one = Sizes { capacity: 1, used: 1 };
-    let refused = |(i, (key, multiplicity))| plan(one, key, multiplicity).err().map(|reason| (i, reason));
-    let entries = keys.chunks_exact(KEY_WORDS).zip(multiplicities.chunks_exact(1)).take(sizes.used);
-    match plan(sizes, keys, multiplicities) {
-        Ok(_) | Err(Refusal::Shape) => None,
-        Err(_) => entries.enumerate().find_map(refused),
-    }
+    let mut entries =
+        keys.chunks_exact(KEY_WORDS).zip(multiplicities.chunks_exact(1).zip(holds.chunks_exact(1))).take(sizes.used);
+    let place = entries.position(|(key, (multiplicity, hold))| plan(one, key, multiplicity, hold) == Err(reason))?;
+    Some((place, reason))
 }
 
-/// Reads a stored list of N entries: they replace the first N places, `sizes.used` becomes N, and the answer is N. Later places keep their
-/// words.
+/// Reads a stored list of N entries: they replace the first N places, which have no hold then, `sizes.used` becomes N, and the answer is N. Later
+/// places keep their words and holds. Open holds do not keep a list from being replaced.
 ///
 /// The length of `bytes` tells the form: [`stored_bytes`](crate::stored_bytes) of N, as [`write()`] writes it, or the old length 8 + 21 N, with
 /// multiplicities of four bytes. A list that was read from the old form is written in the new one.
@@ -327,12 +419,12 @@ pub fn refused_entry(sizes: Sizes, keys: &[u64], multiplicities: &[u64]) -> Opti
 /// ```
 /// use u32_table::{opcodes::AND, read, write, Sizes};
 /// let old = [&[1, 0, 0, 0, 3, 0, 0, 0, 14, 3, 0, 0, 0, 0, 0, 0, 0, 1, 0, 0, 0, 0, 0, 0, 0][..], &[2, 0, 0, 0]].concat();
-/// let (mut sizes, mut keys, mut multiplicities) = (Sizes { capacity: 1, used: 0 }, [0; 3], [0]);
-/// assert_eq!(read(&old, &mut sizes, &mut keys, &mut multiplicities), Ok(1));
-/// assert_eq!((keys, multiplicities), ([AND, 3, 1], [2]));
+/// let (mut sizes, mut keys, mut multiplicities, mut holds) = (Sizes { capacity: 1, used: 0 }, [0; 3], [0], [5]);
+/// assert_eq!(read(&old, &mut sizes, &mut keys, &mut multiplicities, &mut holds), Ok(1));
+/// assert_eq!((keys, multiplicities, holds), ([AND, 3, 1], [2], [0]));
 ///
 /// let mut new = [0; 33];
-/// assert_eq!(write(sizes, &keys, &multiplicities, &mut new), Ok(33));
+/// assert_eq!(write(sizes, &keys, &multiplicities, &holds, &mut new), Ok(33));
 /// assert_eq!(new[..], [&old[..], &[0; 4]].concat());
 /// ```
 ///
@@ -345,10 +437,10 @@ pub fn refused_entry(sizes: Sizes, keys: &[u64], multiplicities: &[u64]) -> Opti
 ///
 /// ```
 /// # use u32_table::{opcodes::AND, read, write, Sizes};
-/// let (mut sizes, mut keys, mut multiplicities) = (Sizes { capacity: 1, used: 1 }, [AND, 3, 1], [(1 << 32) + 2]);
+/// let (mut sizes, mut keys, mut multiplicities, mut holds) = (Sizes { capacity: 1, used: 1 }, [AND, 3, 1], [(1 << 32) + 2], [0]);
 /// let mut bytes = [0; 33];
-/// assert_eq!(write(sizes, &keys, &multiplicities, &mut bytes), Ok(33));
-/// assert_eq!(read(&bytes[..29], &mut sizes, &mut keys, &mut multiplicities), Ok(1));
+/// assert_eq!(write(sizes, &keys, &multiplicities, &holds, &mut bytes), Ok(33));
+/// assert_eq!(read(&bytes[..29], &mut sizes, &mut keys, &mut multiplicities, &mut holds), Ok(1));
 /// assert_eq!(multiplicities, [2]);
 /// ```
 ///
@@ -357,39 +449,45 @@ pub fn refused_entry(sizes: Sizes, keys: &[u64], multiplicities: &[u64]) -> Opti
 /// Refusals, in this order: shape; torn; list full; then entry by entry stranger, wide, bare log, count full; repeat; tally.
 ///
 /// It takes up to 120 KB of stack: see [the crate's page](crate#stack).
-pub fn read(bytes: &[u8], sizes: &mut Sizes, keys: &mut [u64], multiplicities: &mut [u64]) -> Result<usize, Refusal> {
+pub fn read(
+    bytes: &[u8],
+    sizes: &mut Sizes,
+    keys: &mut [u64],
+    multiplicities: &mut [u64],
+    holds: &mut [u64],
+) -> Result<usize, Refusal> {
     let mut answers = [0];
-    done(sys::read(bytes, sizes.numbers(), keys, multiplicities, &mut answers))?;
+    done(sys::read(bytes, sizes.numbers(), keys, multiplicities, holds, &mut answers))?;
     sizes.used = answers[0] as usize;
     Ok(sizes.used)
 }
 
 /// Writes a list as bytes from the start of `out`; the answer is how many, [`stored_bytes`](crate::stored_bytes) of the places used. Later
 /// bytes keep their values. The left operand of pow is written modulo [`P`](crate::P), so the list reads back reduced, and two words of one base
-/// are equal keys.
+/// are equal keys. Holds are not written, and a list with an open one is refused.
 ///
-/// Refusals, in this order: shape; then entry by entry stranger, wide, bare log, count full; repeat; short.
+/// Refusals, in this order: shape; open hold; then entry by entry stranger, wide, bare log, count full; repeat; short.
 ///
 /// It takes up to 52 KB of stack: see [the crate's page](crate#stack).
-pub fn write(sizes: Sizes, keys: &[u64], multiplicities: &[u64], out: &mut [u8]) -> Result<usize, Refusal> {
+pub fn write(sizes: Sizes, keys: &[u64], multiplicities: &[u64], holds: &[u64], out: &mut [u8]) -> Result<usize, Refusal> {
     let mut answers = [0];
-    done(sys::write(sizes.numbers(), keys, multiplicities, out, &mut answers))?;
+    done(sys::write(sizes.numbers(), keys, multiplicities, holds, out, &mut answers))?;
     Ok(answers[0] as usize)
 }
 
 /// Fills a table with the sections of a list's entries, in list order; the answer is the height. Rows past it keep their words.
 ///
-/// Refusals, in this order: shape; then entry by entry stranger, wide, bare log, count full; short.
+/// Refusals, in this order: shape; open hold; then entry by entry stranger, wide, bare log, count full; short.
 ///
 /// ```
 /// use u32_table::{column, fill, opcodes::LT, Sizes, COLUMNS};
 /// let mut table = [0; 4 * COLUMNS];
-/// assert_eq!(fill(Sizes { capacity: 1, used: 1 }, &[LT, 2, 3], &[1], &mut table), Ok(3));
+/// assert_eq!(fill(Sizes { capacity: 1, used: 1 }, &[LT, 2, 3], &[1], &[0], &mut table), Ok(3));
 /// assert_eq!(table[column::RESULT], 1);
 /// ```
-pub fn fill(sizes: Sizes, keys: &[u64], multiplicities: &[u64], table: &mut [u64]) -> Result<usize, Refusal> {
+pub fn fill(sizes: Sizes, keys: &[u64], multiplicities: &[u64], holds: &[u64], table: &mut [u64]) -> Result<usize, Refusal> {
     let mut answers = [0];
-    done(sys::fill(sizes.numbers(), keys, multiplicities, table, &mut answers))?;
+    done(sys::fill(sizes.numbers(), keys, multiplicities, holds, table, &mut answers))?;
     Ok(answers[0] as usize)
 }
 
@@ -434,7 +532,7 @@ pub fn extend(table: &[u64], aux: &mut [u64], challenges: &[u64]) -> Result<[u64
 /// use u32_table::{check, column, extend, fill, opcodes::LT, pad, Group, Sizes, Verdict, AUX_COLUMNS, COLUMNS};
 /// let challenges: Vec<u64> = (1..=15).collect();
 /// let (mut table, mut aux) = ([0; 4 * COLUMNS], [0; 4 * AUX_COLUMNS]);
-/// let height = fill(Sizes { capacity: 1, used: 1 }, &[LT, 2, 3], &[1], &mut table)?;
+/// let height = fill(Sizes { capacity: 1, used: 1 }, &[LT, 2, 3], &[1], &[0], &mut table)?;
 /// pad(&mut table, height)?;
 /// extend(&table, &mut aux, &challenges)?;
 /// assert_eq!(check(&table, &aux, &challenges)?, Verdict::Zero);
@@ -473,8 +571,9 @@ pub fn check(table: &[u64], aux: &[u64], challenges: &[u64]) -> Result<Verdict, 
 /// The denominator is that of [`extend`], of the row with the request's operands, its opcode as CI and, as Result, what the instruction computes; 0 for
 /// split.
 ///
-/// Where all requests are recorded onto a list with no entries, none is refused and no denominator is (0, 0, 0), this is the last sum that [`fill`],
-/// [`pad`] and [`extend`] then make under the same challenges, with rows enough; and none of them refuses.
+/// Where all requests are recorded onto a list with no entries, at once or by [`hold`] and [`confirm`], none is refused, no hold is open at the end and
+/// no denominator of a key at a used place is (0, 0, 0), this is the last sum that [`fill`], [`pad`] and [`extend`] then make under the same challenges,
+/// with rows enough; and none of them refuses. Keys of dropped holds alone are at used places too.
 ///
 /// Refusals, in this order: shape (requests are not three words each, challenges not fifteen); unreduced (challenges); then request by request
 /// stranger, wide, bare log, flat.

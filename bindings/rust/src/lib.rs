@@ -1,7 +1,7 @@
 //! The U32 table of Triton VM, proved: a safe interface to the static library that `rt staticlib u32_table` makes of the proved crates.
 //!
 //! The table holds every comparison, bitwise and, logarithm, power and bit count that a program made on 32-bit numbers, in rows that forty
-//! polynomials tie together. A [`List`] records them and can be stored; a [`Table`] is filled from it, padded, extended and checked: the check finds
+//! polynomials tie together. A [`List`] records them, at once or in two parts, and can be stored; a [`Table`] is filled from it, padded, extended and checked: the check finds
 //! the first polynomial that is not zero, or says that all are. When all are, each row that stands for an instruction tells the truth, whoever
 //! made the table.
 //!
@@ -33,7 +33,7 @@
 //!
 //! [`client_sum`] is the other end of the lookup: the processor's sum over its requests, which equals the last sum of the table made of them.
 //!
-//! The eleven calls stand here too as functions over slices, for arrays that a program has already; and [`batches`], which tries a batch size.
+//! The fourteen calls stand here too as functions over slices, for arrays that a program has already; and [`batches`], which tries a batch size.
 //!
 //! Beside the table stand the byte lookup and the cascade of the hash function: [`Lookups`] records 16-bit values and makes the running sums of both, and
 //! there are functions over slices for these too. [`archive`] keeps a table and its sums as bytes, with columns side by side, and [`restore`] gives both back.
@@ -73,7 +73,9 @@ mod table;
 
 pub use archive::{archive, archive_bytes, archived_rows, restore};
 pub use batches::{batches, Batch, Batched, Batches};
-pub use calls::{check, client_sum, compare, extend, fill, pad, plan, read, record, refused_entry, replay, write};
+pub use calls::{
+    check, client_sum, compare, confirm, drop_hold, extend, fill, hold, pad, plan, read, record, refused_entry, replay, write,
+};
 pub use calls::{Entry, Group, Plan, Sizes, Stopped, Verdict};
 pub use list::List;
 pub use lookups::{byte_lookup, byte_sum, cascade_lookup, cascade_sum, look_up, Lookups};

@@ -1,6 +1,6 @@
 use crate::{calls, stored_bytes, Entry, Plan, Refusal, Sizes, Stopped, KEY_WORDS};
 
-/// A list of entries with their multiplicities, that owns its two arrays.
+/// A list of entries with their multiplicities and open holds, that owns its three arrays.
 ///
 /// ```
 /// # fn main() -> Result<(), u32_table::Refusal> {
@@ -17,13 +17,32 @@ use crate::{calls, stored_bytes, Entry, Plan, Refusal, Sizes, Stopped, KEY_WORDS
 /// # }
 /// ```
 ///
-/// Two lists are equal if their entries are, with their multiplicities and in their order. How many places there are, and what unused ones hold,
-/// does not count.
+/// A recording may be made in two parts: [`hold`](List::hold), then [`confirm`](List::confirm) or [`drop_hold`](List::drop_hold). While a hold is open,
+/// the list is not planned, filled or written.
+///
+/// ```
+/// # fn main() -> Result<(), u32_table::Refusal> {
+/// use u32_table::{List, Opcode, Refusal};
+/// let mut list = List::new(16)?;
+/// let [kept, undone] = [list.hold(Opcode::And.entry(3, 1))?, list.hold(Opcode::Lt.entry(2, 3))?];
+/// assert_eq!(list.plan(), Err(Refusal::OpenHold));
+/// list.confirm(kept)?;
+/// list.drop_hold(undone)?;
+/// // a key whose hold is dropped keeps its place
+/// assert_eq!(list.entries().collect::<Vec<_>>(), [(Opcode::And.entry(3, 1), 1), (Opcode::Lt.entry(2, 3), 0)]);
+/// assert_eq!(list.plan()?.height, 6);
+/// # Ok(())
+/// # }
+/// ```
+///
+/// Two lists are equal if their entries are, with their multiplicities and open holds and in their order. How many places there are, and what stands in
+/// unused ones, does not count.
 #[derive(Clone, Debug)]
 pub struct List {
     sizes: Sizes,
     keys: Vec<u64>,
     multiplicities: Vec<u64>,
+    holds: Vec<u64>,
 }
 
 impl List {
@@ -32,7 +51,12 @@ impl List {
         if capacity > crate::MAX_PLACES {
             return Err(Refusal::Shape);
         }
-        Ok(List { sizes: Sizes { capacity, used: 0 }, keys: vec![0; KEY_WORDS * capacity], multiplicities: vec![0; capacity] })
+        Ok(List {
+            sizes: Sizes { capacity, used: 0 },
+            keys: vec![0; KEY_WORDS * capacity],
+            multiplicities: vec![0; capacity],
+            holds: vec![0; capacity],
+        })
     }
 
     /// A list as it was stored, with so many places; see [`read`](crate::read), also for the stack that it takes.
@@ -44,7 +68,22 @@ impl List {
 
     /// Records an entry; see [`record`](crate::record). The answer is the position of its key.
     pub fn record(&mut self, entry: Entry) -> Result<usize, Refusal> {
-        calls::record(&mut self.sizes, &mut self.keys, &mut self.multiplicities, entry)
+        calls::record(&mut self.sizes, &mut self.keys, &mut self.multiplicities, &mut self.holds, entry)
+    }
+
+    /// The first part of a recording: its key gains a hold; see [`hold`](crate::hold). The answer is the position of its key.
+    pub fn hold(&mut self, entry: Entry) -> Result<usize, Refusal> {
+        calls::hold(&mut self.sizes, &mut self.keys, &mut self.multiplicities, &mut self.holds, entry)
+    }
+
+    /// The second part: one hold at the position becomes one count; see [`confirm`](crate::confirm).
+    pub fn confirm(&mut self, position: usize) -> Result<(), Refusal> {
+        calls::confirm(self.sizes, &self.keys, &mut self.multiplicities, &mut self.holds, position)
+    }
+
+    /// Or: one hold at the position is no more; see [`drop_hold`](crate::drop_hold).
+    pub fn drop_hold(&mut self, position: usize) -> Result<(), Refusal> {
+        calls::drop_hold(self.sizes, &self.keys, &self.multiplicities, &mut self.holds, position)
     }
 
     /// Records the steps of a trace, three words each, up to the first that is refused; see [`replay`](crate::replay). The answer is how many; where the
@@ -61,25 +100,25 @@ impl List {
     /// # }
     /// ```
     pub fn replay(&mut self, trace: &[u64]) -> Result<usize, Stopped> {
-        calls::replay(&mut self.sizes, &mut self.keys, &mut self.multiplicities, trace)
+        calls::replay(&mut self.sizes, &mut self.keys, &mut self.multiplicities, &mut self.holds, trace)
     }
 
     /// The rows that the list needs; see [`plan`](crate::plan).
     pub fn plan(&self) -> Result<Plan, Refusal> {
-        calls::plan(self.sizes, &self.keys, &self.multiplicities)
+        calls::plan(self.sizes, &self.keys, &self.multiplicities, &self.holds)
     }
 
     /// Replaces the list by a stored one; see [`read`](crate::read). The answer is the number of entries.
     pub fn read(&mut self, bytes: &[u8]) -> Result<usize, Refusal> {
-        calls::read(bytes, &mut self.sizes, &mut self.keys, &mut self.multiplicities)
+        calls::read(bytes, &mut self.sizes, &mut self.keys, &mut self.multiplicities, &mut self.holds)
     }
 
     /// Writes the list as bytes from the start of `out`; see [`write`](crate::write). The answer is how many.
     pub fn write(&self, out: &mut [u8]) -> Result<usize, Refusal> {
-        calls::write(self.sizes, &self.keys, &self.multiplicities, out)
+        calls::write(self.sizes, &self.keys, &self.multiplicities, &self.holds, out)
     }
 
-    /// The list as it is stored.
+    /// The list as it is stored; holds are not.
     pub fn to_bytes(&self) -> Result<Vec<u8>, Refusal> {
         let mut bytes = vec![0; stored_bytes(self.sizes.used)];
         let length = self.write(&mut bytes)?;
@@ -89,7 +128,7 @@ impl List {
 
     /// Fills a table with the sections of the entries; see [`fill`](crate::fill). The answer is the height.
     pub fn fill(&self, table: &mut [u64]) -> Result<usize, Refusal> {
-        calls::fill(self.sizes, &self.keys, &self.multiplicities, table)
+        calls::fill(self.sizes, &self.keys, &self.multiplicities, &self.holds, table)
     }
 
     /// The entries with their multiplicities, in list order.
@@ -127,11 +166,16 @@ impl List {
     pub fn multiplicities(&self) -> &[u64] {
         &self.multiplicities
     }
+
+    /// The open holds of every place, used or not.
+    pub fn holds(&self) -> &[u64] {
+        &self.holds
+    }
 }
 
 impl PartialEq for List {
     fn eq(&self, other: &List) -> bool {
-        self.entries().eq(other.entries())
+        self.entries().eq(other.entries()) && self.holds[..self.len()] == other.holds[..other.len()]
     }
 }
 

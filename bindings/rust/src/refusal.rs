@@ -59,7 +59,7 @@ macro_rules! refusals {
 }
 
 refusals! {
-    /// An array has the wrong length, or the sizes are out of range: keys are three words a place, multiplicities one a place, used
+    /// An array has the wrong length, or the sizes are out of range: keys are three words a place, multiplicities and holds one a place, used
     /// is at most the capacity and that at most [`MAX_PLACES`](crate::MAX_PLACES); a table is whole rows, at most
     /// [`MAX_ROWS`](crate::MAX_ROWS); aux is three words a row; challenges are fifteen words; a trace is three words a step, and
     /// requests are three words each; in
@@ -72,7 +72,7 @@ refusals! {
     3 Wide "wide",
     /// log_2_floor of 0.
     4 BareLog "bare log",
-    /// A multiplicity above [`P`](crate::P) − 1; in recording, the first equal key's, if one more would pass that.
+    /// A multiplicity above [`P`](crate::P) − 1; in recording and holding, if the first equal key's count plus holds and one more would pass that.
     5 CountFull "count full",
     /// A new key and no unused place; in reading, more entries than places.
     6 ListFull "list full",
@@ -95,6 +95,10 @@ refusals! {
     13 ZeroDivisor "zero divisor",
     /// A new value and no unused place in a cascade; see [`look_up`](crate::look_up).
     14 CascadeFull "cascade full",
+    /// A hold at a used place, in [`plan`](crate::plan), [`write`](crate::write()) and [`fill`](crate::fill).
+    15 OpenHold "open hold",
+    /// A position that is not used, or has no hold, in [`confirm`](crate::confirm) and [`drop_hold`](crate::drop_hold).
+    16 NoHold "no hold",
     /// A job of more rows than the setting, in [`batches`](crate::batches).
     17 JobAbove "job above",
 }

@@ -11,6 +11,7 @@ pub fn record(
     [capacity, used]: [usize; 2],
     keys: &mut [u64],
     multiplicities: &mut [u64],
+    holds: &mut [u64],
     [opcode, left_operand, right_operand]: [u64; 3],
     answers: &mut [u64; 2],
 ) -> u64 {
@@ -22,6 +23,8 @@ pub fn record(
             keys.len(),
             multiplicities.as_mut_ptr(),
             multiplicities.len(),
+            holds.as_mut_ptr(),
+            holds.len(),
             opcode,
             left_operand,
             right_operand,
@@ -31,10 +34,76 @@ pub fn record(
     }
 }
 
+pub fn hold(
+    [capacity, used]: [usize; 2],
+    keys: &mut [u64],
+    multiplicities: &mut [u64],
+    holds: &mut [u64],
+    [opcode, left_operand, right_operand]: [u64; 3],
+    answers: &mut [u64; 2],
+) -> u64 {
+    unsafe {
+        c::u32_table_hold(
+            capacity,
+            used,
+            keys.as_mut_ptr(),
+            keys.len(),
+            multiplicities.as_mut_ptr(),
+            multiplicities.len(),
+            holds.as_mut_ptr(),
+            holds.len(),
+            opcode,
+            left_operand,
+            right_operand,
+            answers.as_mut_ptr(),
+            answers.len(),
+        )
+    }
+}
+
+pub fn confirm(
+    [capacity, used]: [usize; 2],
+    keys: &[u64],
+    multiplicities: &mut [u64],
+    holds: &mut [u64],
+    position: usize,
+) -> u64 {
+    unsafe {
+        c::u32_table_confirm(
+            capacity,
+            used,
+            keys.as_ptr(),
+            keys.len(),
+            multiplicities.as_mut_ptr(),
+            multiplicities.len(),
+            holds.as_mut_ptr(),
+            holds.len(),
+            position,
+        )
+    }
+}
+
+pub fn drop_hold([capacity, used]: [usize; 2], keys: &[u64], multiplicities: &[u64], holds: &mut [u64], position: usize) -> u64 {
+    unsafe {
+        c::u32_table_drop(
+            capacity,
+            used,
+            keys.as_ptr(),
+            keys.len(),
+            multiplicities.as_ptr(),
+            multiplicities.len(),
+            holds.as_mut_ptr(),
+            holds.len(),
+            position,
+        )
+    }
+}
+
 pub fn replay(
     [capacity, used]: [usize; 2],
     keys: &mut [u64],
     multiplicities: &mut [u64],
+    holds: &mut [u64],
     trace: &[u64],
     answers: &mut [u64; 2],
 ) -> u64 {
@@ -46,6 +115,8 @@ pub fn replay(
             keys.len(),
             multiplicities.as_mut_ptr(),
             multiplicities.len(),
+            holds.as_mut_ptr(),
+            holds.len(),
             trace.as_ptr(),
             trace.len(),
             answers.as_mut_ptr(),
@@ -60,7 +131,7 @@ pub fn compare(entry: [u64; 3], other: [u64; 3], answers: &mut [u64; 1]) -> u64 
     }
 }
 
-pub fn plan([capacity, used]: [usize; 2], keys: &[u64], multiplicities: &[u64], answers: &mut [u64; 2]) -> u64 {
+pub fn plan([capacity, used]: [usize; 2], keys: &[u64], multiplicities: &[u64], holds: &[u64], answers: &mut [u64; 2]) -> u64 {
     unsafe {
         c::u32_table_plan(
             capacity,
@@ -69,6 +140,8 @@ pub fn plan([capacity, used]: [usize; 2], keys: &[u64], multiplicities: &[u64], 
             keys.len(),
             multiplicities.as_ptr(),
             multiplicities.len(),
+            holds.as_ptr(),
+            holds.len(),
             answers.as_mut_ptr(),
             answers.len(),
         )
@@ -80,6 +153,7 @@ pub fn read(
     [capacity, used]: [usize; 2],
     keys: &mut [u64],
     multiplicities: &mut [u64],
+    holds: &mut [u64],
     answers: &mut [u64; 1],
 ) -> u64 {
     unsafe {
@@ -92,13 +166,22 @@ pub fn read(
             keys.len(),
             multiplicities.as_mut_ptr(),
             multiplicities.len(),
+            holds.as_mut_ptr(),
+            holds.len(),
             answers.as_mut_ptr(),
             answers.len(),
         )
     }
 }
 
-pub fn write([capacity, used]: [usize; 2], keys: &[u64], multiplicities: &[u64], out: &mut [u8], answers: &mut [u64; 1]) -> u64 {
+pub fn write(
+    [capacity, used]: [usize; 2],
+    keys: &[u64],
+    multiplicities: &[u64],
+    holds: &[u64],
+    out: &mut [u8],
+    answers: &mut [u64; 1],
+) -> u64 {
     unsafe {
         c::u32_table_write(
             capacity,
@@ -107,6 +190,8 @@ pub fn write([capacity, used]: [usize; 2], keys: &[u64], multiplicities: &[u64],
             keys.len(),
             multiplicities.as_ptr(),
             multiplicities.len(),
+            holds.as_ptr(),
+            holds.len(),
             out.as_mut_ptr(),
             out.len(),
             answers.as_mut_ptr(),
@@ -119,6 +204,7 @@ pub fn fill(
     [capacity, used]: [usize; 2],
     keys: &[u64],
     multiplicities: &[u64],
+    holds: &[u64],
     table: &mut [u64],
     answers: &mut [u64; 1],
 ) -> u64 {
@@ -130,6 +216,8 @@ pub fn fill(
             keys.len(),
             multiplicities.as_ptr(),
             multiplicities.len(),
+            holds.as_ptr(),
+            holds.len(),
             table.as_mut_ptr(),
             table.len(),
             answers.as_mut_ptr(),

@@ -50,7 +50,7 @@ impl Table {
     /// Becomes the sections of the list's entries on as many rows as the list's padded height; see [`fill`](crate::fill). Rows past the sections
     /// and all sums are zero words. The answer is the height, the number of filled rows.
     ///
-    /// Refusals: those of [`plan`](crate::plan), which no [`List`] meets.
+    /// Refusals: those of [`plan`](crate::plan), of which a [`List`] meets open hold alone.
     pub fn fill(&mut self, list: &List) -> Result<usize, Refusal> {
         let rows = list.plan()?.padded_height;
         let mut words = vec![0; rows * COLUMNS];

@@ -17,7 +17,7 @@ fn pow(base: u64, exponent: u64) -> Entry {
 /// An entry recorded onto a fresh list: its words there, or the reason.
 fn recorded(entry: Entry) -> Result<[u64; 3], Refusal> {
     let (mut sizes, mut keys, mut counts) = (Sizes { capacity: 1, used: 0 }, [7; 3], [7]);
-    record(&mut sizes, &mut keys, &mut counts, entry).map(|_| keys)
+    record(&mut sizes, &mut keys, &mut counts, &mut [0], entry).map(|_| keys)
 }
 
 #[test]
@@ -39,7 +39,7 @@ fn bases_are_reduced() {
 fn two_words_of_one_base_are_one_key() {
     let (mut sizes, mut keys, mut counts) = (Sizes { capacity: 3, used: 0 }, [7; 9], [7; 3]);
     for (entry, place) in [(pow(P + 5, 2), 0), (pow(5, 2), 0), (pow(u64::MAX, 0), 1), (pow(WIDE - 2, 0), 1), (pow(P + 5, 3), 2)] {
-        assert_eq!(record(&mut sizes, &mut keys, &mut counts, entry), Ok(place), "{entry:?}");
+        assert_eq!(record(&mut sizes, &mut keys, &mut counts, &mut [0; 3], entry), Ok(place), "{entry:?}");
     }
     assert_eq!((keys, counts), ([POW, 5, 2, POW, WIDE - 2, 0, POW, 5, 3], [2, 2, 1]));
     // comparing looks at the words
@@ -51,26 +51,26 @@ fn two_words_of_one_base_are_one_key() {
 fn a_raw_key_counts_as_its_reduced_form() {
     let (one, raw) = (Sizes { capacity: 1, used: 1 }, [POW, P + 5, 2]);
     let (mut sizes, mut keys, mut counts) = (one, raw, [7]);
-    assert_eq!(record(&mut sizes, &mut keys, &mut counts, pow(5, 2)), Ok(0));
+    assert_eq!(record(&mut sizes, &mut keys, &mut counts, &mut [0], pow(5, 2)), Ok(0));
     assert_eq!((sizes, keys, counts), (one, raw, [8]));
 
     let mut out = [9; 34];
-    assert_eq!(write(one, &raw, &[7], &mut out), Ok(33));
+    assert_eq!(write(one, &raw, &[7], &[0], &mut out), Ok(33));
     assert_eq!(out[8..17], [30, 5, 0, 0, 0, 0, 0, 0, 0]);
     let (mut sizes, mut keys, mut counts) = (Sizes { capacity: 1, used: 0 }, [0; 3], [0]);
-    assert_eq!(read(&out[..33], &mut sizes, &mut keys, &mut counts), Ok(1));
+    assert_eq!(read(&out[..33], &mut sizes, &mut keys, &mut counts, &mut [0]), Ok(1));
     assert_eq!((keys, counts), ([POW, 5, 2], [7]));
 
     let (two, both) = (Sizes { capacity: 2, used: 2 }, [POW, P + 5, 2, POW, 5, 2]);
     let mut table = [9; 6 * COLUMNS];
-    assert_eq!(plan(two, &both, &[7, 1]), Ok(Plan { height: 6, padded_height: 256 }));
-    assert_eq!(fill(two, &both, &[7, 1], &mut table), Ok(6));
+    assert_eq!(plan(two, &both, &[7, 1], &[0; 2]), Ok(Plan { height: 6, padded_height: 256 }));
+    assert_eq!(fill(two, &both, &[7, 1], &[0; 2], &mut table), Ok(6));
     for (row, count) in [(0, 7), (3, 1)] {
         let row = &table[row * COLUMNS..][..COLUMNS];
         assert_eq!((row[4], row[6], row[8], row[9]), (5, 2, 25, count));
     }
-    assert_eq!(write(two, &both, &[7, 1], &mut [0; 58]), Err(Repeat));
-    assert_eq!(plan(one, &[POW, u64::MAX, WIDE - 1], &[1]), Ok(Plan { height: 33, padded_height: 256 }));
+    assert_eq!(write(two, &both, &[7, 1], &[0; 2], &mut [0; 58]), Err(Repeat));
+    assert_eq!(plan(one, &[POW, u64::MAX, WIDE - 1], &[1], &[0]), Ok(Plan { height: 33, padded_height: 256 }));
 }
 
 /// In stored bytes the base is taken as it stands, entry by entry.
@@ -97,7 +97,7 @@ fn stored_bases_are_below_p() {
         (&[(30, 0, 0), (30, P, 0)], Err(Wide)),
     ] {
         let (mut sizes, mut keys, mut counts) = (Sizes { capacity: 2, used: 0 }, [7; 6], [7; 2]);
-        assert_eq!(read(&stored(entries, 1), &mut sizes, &mut keys, &mut counts), due, "{entries:?}");
+        assert_eq!(read(&stored(entries, 1), &mut sizes, &mut keys, &mut counts, &mut [0; 2]), due, "{entries:?}");
         if due.is_err() {
             assert_eq!((sizes.used, keys, counts), (0, [7; 6], [7; 2]));
         }

@@ -157,7 +157,7 @@ fn filled(entries: &[Entry]) -> Result<Vec<Row>, Refusal> {
     let keys: Vec<u64> = entries.iter().flat_map(|e| [e.opcode, e.left_operand, e.right_operand]).collect();
     let sizes = Sizes { capacity: entries.len(), used: entries.len() };
     let mut table = vec![0; entries.len() * 33 * COLUMNS];
-    let height = fill(sizes, &keys, &vec![1; entries.len()], &mut table)?;
+    let height = fill(sizes, &keys, &vec![1; entries.len()], &vec![0; entries.len()], &mut table)?;
     Ok(table.chunks(COLUMNS).take(height).map(|row| row.try_into().unwrap()).collect())
 }
 
@@ -328,8 +328,8 @@ fn a_row_of_its_own_is_needed() {
     // .. whose height is 2, so the table is shorter than what fill reports: it has no row of its own for each of the two
     let (sizes, keys) = (Sizes { capacity: 2, used: 2 }, [AND, 0, 0, AND, 0, 0]);
     let mut table = [0; 2 * COLUMNS];
-    assert_eq!(fill(sizes, &keys, &[1, 1], &mut table[..COLUMNS]), Err(Refusal::Short));
-    assert_eq!(fill(sizes, &keys, &[1, 1], &mut table), Ok(2));
+    assert_eq!(fill(sizes, &keys, &[1, 1], &[0, 0], &mut table[..COLUMNS]), Err(Refusal::Short));
+    assert_eq!(fill(sizes, &keys, &[1, 1], &[0, 0], &mut table), Ok(2));
     assert!(passes(&[one[0], one[0]], &challenges));
     assert_eq!(table.to_vec(), [one[0], one[0]].concat());
 }

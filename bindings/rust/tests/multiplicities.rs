@@ -26,7 +26,7 @@ fn stored(entries: &[(Entry, u64)], width: usize) -> Vec<u8> {
 /// Reads onto so many places: the list, or the reason, with nothing changed.
 fn list_read(bytes: &[u8], capacity: usize) -> Result<Vec<(Entry, u64)>, Refusal> {
     let (mut sizes, mut keys, mut counts) = (Sizes { capacity, used: 0 }, vec![7; 3 * capacity], vec![7; capacity]);
-    let answer = read(bytes, &mut sizes, &mut keys, &mut counts);
+    let answer = read(bytes, &mut sizes, &mut keys, &mut counts, &mut vec![0; capacity]);
     let n = answer.unwrap_or(0);
     assert!(sizes == Sizes { capacity, used: n } && keys[3 * n..].iter().chain(&counts[n..]).all(|word| *word == 7));
     answer.map(|_| keys.chunks(3).zip(counts).take(n).map(|(k, count)| (Entry::new(k[0], k[1], k[2]), count)).collect())
@@ -43,7 +43,7 @@ fn recordings_count_to_the_limit() {
         (u64::MAX, Err(CountFull)),
     ] {
         let (mut sizes, mut keys, mut counts) = (ONE, AND_3_1, [count]);
-        assert_eq!(record(&mut sizes, &mut keys, &mut counts, Entry::new(AND, 3, 1)), due.map(|_| 0), "{count}");
+        assert_eq!(record(&mut sizes, &mut keys, &mut counts, &mut [0], Entry::new(AND, 3, 1)), due.map(|_| 0), "{count}");
         assert_eq!((sizes, keys, counts), (ONE, AND_3_1, [due.unwrap_or(count)]));
     }
 }
@@ -53,9 +53,9 @@ fn the_other_calls_have_the_same_limit() {
     for (count, fine) in [(1 << 32, true), (P - 1, true), (P, false), (u64::MAX, false)] {
         let (mut table, mut out) = ([9; 3 * COLUMNS], [9; 33]);
         let due = |answer: usize| if fine { Ok(answer) } else { Err(CountFull) };
-        assert_eq!(plan(ONE, &AND_3_1, &[count]), due(3).map(|height| Plan { height, padded_height: 256 }));
-        assert_eq!(fill(ONE, &AND_3_1, &[count], &mut table), due(3));
-        assert_eq!(write(ONE, &AND_3_1, &[count], &mut out), due(33));
+        assert_eq!(plan(ONE, &AND_3_1, &[count], &[0]), due(3).map(|height| Plan { height, padded_height: 256 }));
+        assert_eq!(fill(ONE, &AND_3_1, &[count], &[0], &mut table), due(3));
+        assert_eq!(write(ONE, &AND_3_1, &[count], &[0], &mut out), due(33));
         assert_eq!((table[column::LOOKUP_MULTIPLICITY], table[0]), if fine { (count, 1) } else { (9, 9) });
         assert_eq!(out[25..], if fine { count.to_le_bytes() } else { [9; 8] });
         assert_eq!(list_read(&stored(&[(Entry::new(AND, 3, 1), count)], 8), 1).map(|list| list[0].1), due(0).map(|_| count));
@@ -68,7 +68,7 @@ fn a_table_with_the_largest_count() {
     let mut challenges = [0; 15];
     challenges[0] = 1;
     let (mut table, mut aux) = ([0; 256 * COLUMNS], [0; 256 * AUX_COLUMNS]);
-    assert_eq!(fill(ONE, &AND_3_1, &[P - 1], &mut table), Ok(3));
+    assert_eq!(fill(ONE, &AND_3_1, &[P - 1], &[0], &mut table), Ok(3));
     assert_eq!(pad(&mut table, 3), Ok(()));
     assert_eq!(extend(&table, &mut aux, &challenges), Ok([P - 1, 0, 0]));
     assert_eq!(check(&table, &aux, &challenges), Ok(Verdict::Zero));

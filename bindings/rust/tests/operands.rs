@@ -21,7 +21,7 @@ fn stored(entries: &[(u8, [u8; 8], [u8; 8])], height: usize, multiplicity: &[u8]
 /// Reads a list of n entries: the words of its keys, or the reason. The multiplicities are compared.
 fn keys_read(bytes: &[u8], n: usize, multiplicity: u64) -> Result<Vec<u64>, Refusal> {
     let (mut sizes, mut keys, mut multiplicities) = (Sizes { capacity: n, used: 0 }, vec![7; 3 * n], vec![7; n]);
-    let answer = read(bytes, &mut sizes, &mut keys, &mut multiplicities);
+    let answer = read(bytes, &mut sizes, &mut keys, &mut multiplicities, &mut vec![0; n]);
     match answer {
         Ok(used) => assert_eq!((used, sizes.used, &multiplicities), (n, n, &vec![multiplicity; n])),
         Err(_) => assert!(keys.iter().chain(&multiplicities).all(|word| *word == 7)),

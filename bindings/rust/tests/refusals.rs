@@ -1,13 +1,10 @@
 //! Every reason to decline, in its order, and that a refused call has changed nothing it was lent.
 mod common;
 
-use common::{list_of, tables_of, Random};
+use common::{lent, list_of, tables_of, Lent, Random};
 use std::collections::BTreeSet;
 use u32_table::opcodes::{AND, LOG_2_FLOOR, LT, POW, SPLIT};
-use u32_table::{
-    check, extend, fill, pad, plan, read, record, refused_entry, write, Entry, List, Refusal, Sizes, Verdict, COLUMNS, MAX_ROWS,
-    P,
-};
+use u32_table::{check, extend, fill, pad, plan, refused_entry, Entry, List, Refusal, Sizes, Verdict, COLUMNS, MAX_ROWS, P};
 use Refusal::*;
 
 const WIDE: u64 = 1 << 32;
@@ -15,16 +12,16 @@ const MOST_COUNT: u64 = P - 1;
 
 #[test]
 fn numbers_and_words() {
-    let numbers = (1..=14).chain([17]);
+    let numbers = 1..=17;
     assert_eq!(Refusal::all().len(), numbers.clone().count());
     for (number, reason) in numbers.zip(Refusal::all()) {
         assert_eq!(reason.number(), number);
         assert_eq!(Refusal::from_number(number), Some(reason));
         assert_eq!(reason.to_string(), format!("refused {number} ({})", reason.word()));
     }
-    assert_eq!(Refusal::all().len(), 15);
+    assert_eq!(Refusal::all().len(), 17);
     // a number without a name is kept
-    for number in [15, 99, u64::MAX] {
+    for number in [18, 99, u64::MAX] {
         let other = Refusal::from_number(number).unwrap();
         assert_eq!((other, other.number()), (Other(number), number));
         assert_eq!(other.to_string(), format!("refused {number} (without a name)"));
@@ -34,51 +31,16 @@ fn numbers_and_words() {
     assert_eq!(error.to_string(), "refused 12 (tally)");
 }
 
-/// A list that is lent, with any words in it.
-#[derive(Clone, PartialEq, Debug)]
-struct Lent {
-    sizes: Sizes,
-    keys: Vec<u64>,
-    multiplicities: Vec<u64>,
-}
-
-fn lent(capacity: usize, entries: &[(u64, u64, u64, u64)]) -> Lent {
-    let mut l =
-        Lent { sizes: Sizes { capacity, used: entries.len() }, keys: vec![7; 3 * capacity], multiplicities: vec![7; capacity] };
-    for (i, (opcode, left, right, multiplicity)) in entries.iter().enumerate() {
-        l.keys[3 * i..3 * i + 3].copy_from_slice(&[*opcode, *left, *right]);
-        l.multiplicities[i] = *multiplicity;
-    }
-    l
-}
-
-impl Lent {
-    fn record(&mut self, entry: Entry) -> Result<usize, Refusal> {
-        record(&mut self.sizes, &mut self.keys, &mut self.multiplicities, entry)
-    }
-    fn plan(&self) -> Result<(usize, usize), Refusal> {
-        plan(self.sizes, &self.keys, &self.multiplicities).map(|p| (p.height, p.padded_height))
-    }
-    fn read(&mut self, bytes: &[u8]) -> Result<usize, Refusal> {
-        read(bytes, &mut self.sizes, &mut self.keys, &mut self.multiplicities)
-    }
-    fn write(&self, out: &mut [u8]) -> Result<usize, Refusal> {
-        write(self.sizes, &self.keys, &self.multiplicities, out)
-    }
-    fn fill(&self, table: &mut [u64]) -> Result<usize, Refusal> {
-        fill(self.sizes, &self.keys, &self.multiplicities, table)
-    }
-}
-
 #[test]
 fn record_refuses() {
     let fine = lent(2, &[(AND, 3, 1, 2)]);
     let full = lent(1, &[(AND, 3, 1, MOST_COUNT)]);
     let shapes = {
-        let mut bad = [fine.clone(), fine.clone(), fine.clone(), lent(2049, &[])];
+        let mut bad = [fine.clone(), fine.clone(), fine.clone(), fine.clone(), lent(2049, &[])];
         bad[0].sizes.used = 3;
         bad[1].keys.pop();
         bad[2].multiplicities.push(0);
+        bad[3].holds.pop();
         bad
     };
     let mut cases: Vec<(Lent, Entry, Refusal)> = shapes.into_iter().map(|l| (l, Entry::new(99, WIDE, WIDE), Shape)).collect();
@@ -111,6 +73,12 @@ fn refused_lists() -> Vec<(Lent, Refusal)> {
         (lent(4, &[fine, (LT, 1, 1, P), (5, 0, 0, 0)]), CountFull),
         (lent(4, &[fine, (LT, 1, 1, u64::MAX), (5, 0, 0, 0)]), CountFull),
     ];
+    // 15 before 2 to 5, of whichever place; 1 before it
+    let mut held = lent(4, &[(5, WIDE, 0, P), fine]);
+    held.holds[1] = 1;
+    list.push((held.clone(), OpenHold));
+    held.holds.push(0);
+    list.push((held, Shape));
     let mut shape = lent(4, &[(5, 0, 0, 0)]);
     shape.keys.push(0);
     list.push((shape, Shape));
@@ -124,7 +92,7 @@ fn plan_fill_and_write_refuse() {
         assert_eq!(list.plan(), Err(reason));
         assert_eq!(list.fill(&mut table), Err(reason));
         assert_eq!(list.write(&mut out), Err(reason));
-        let entry = refused_entry(list.sizes, &list.keys, &list.multiplicities);
+        let entry = refused_entry(list.sizes, &list.keys, &list.multiplicities, &list.holds);
         assert_eq!(entry, if reason == Shape { None } else { Some((1, reason)) });
         assert!(table.iter().all(|w| *w == 3) && out.iter().all(|b| *b == 5));
     }
@@ -178,9 +146,12 @@ fn read_refuses() {
         assert_eq!(after.read(&stored), Err(reason));
         assert_eq!(after, list);
     }
-    let mut shape = to.clone();
-    shape.multiplicities.pop();
-    assert_eq!(shape.clone().read(&[]), Err(Shape));
+    let mut shapes = [to.clone(), to.clone()];
+    shapes[0].multiplicities.pop();
+    shapes[1].holds.push(0);
+    for mut shape in shapes {
+        assert_eq!(shape.read(&[]), Err(Shape));
+    }
     assert_eq!(to.clone().read(&bytes), Ok(2));
 }
 
@@ -268,9 +239,10 @@ fn flat_is_a_zero_denominator_and_nothing_else() {
         let keys: Vec<u64> = entries.iter().flat_map(|(e, _)| [e.opcode, e.left_operand, e.right_operand]).collect();
         let multiplicities: Vec<u64> = entries.iter().map(|(_, multiplicity)| *multiplicity).collect();
         let sizes = Sizes { capacity: entries.len(), used: entries.len() };
-        let rows = plan(sizes, &keys, &multiplicities).unwrap().height;
+        let holds = vec![0; entries.len()];
+        let rows = plan(sizes, &keys, &multiplicities, &holds).unwrap().height;
         let (mut table, mut aux) = (vec![0; rows * COLUMNS], vec![P; rows * 3]);
-        fill(sizes, &keys, &multiplicities, &mut table).unwrap();
+        fill(sizes, &keys, &multiplicities, &holds, &mut table).unwrap();
         assert_eq!(extend(&table, &mut aux, &challenges_with(words)), due);
         assert!(due.is_ok() || aux.iter().all(|word| *word == P));
         if entries.len() == 1 && words.is_empty() {
@@ -299,5 +271,5 @@ fn every_reason_is_reached() {
     note(lent(1, &[]).read(&[0; 9]).unwrap_err());
     note(lent(2, &[(AND, 3, 1, 1), (AND, 3, 1, 1)]).write(&mut [0; 50]).unwrap_err());
     note(lent(1, &[]).read(&[0, 0, 0, 0, 1, 0, 0, 0]).unwrap_err());
-    assert_eq!(reached.into_iter().collect::<Vec<_>>(), (1..=12).collect::<Vec<_>>());
+    assert_eq!(reached.into_iter().collect::<Vec<_>>(), (1..=12).chain([15]).collect::<Vec<_>>());
 }

@@ -1,66 +1,20 @@
 //! Replay: what each step records, every refusal in its order with the steps before it done, and random traces against a plain walk over recordings.
 mod common;
 
-use common::Random;
+use common::{lent, step_entries, Lent, Random};
 use u32_table::opcodes::{AND, LOG_2_FLOOR, LT, POP_COUNT, POW, SPLIT};
 use u32_table::steps::{DIV_MOD, MERKLE_STEP, MERKLE_STEP_MEM, XOR};
-use u32_table::{record, replay, Entry, List, Refusal, Sizes, Stopped, P};
+use u32_table::{List, Refusal, Stopped, P};
 use Refusal::*;
 
 const WIDE: u64 = 1 << 32;
-
-/// A list that is lent, with marks in its unused places.
-#[derive(Clone, PartialEq, Debug)]
-struct Lent {
-    sizes: Sizes,
-    keys: Vec<u64>,
-    multiplicities: Vec<u64>,
-}
-
-fn lent(capacity: usize, entries: &[(u64, u64, u64, u64)]) -> Lent {
-    let sizes = Sizes { capacity, used: entries.len() };
-    let mut l = Lent { sizes, keys: vec![7; 3 * capacity], multiplicities: vec![7; capacity] };
-    for (i, (opcode, left, right, multiplicity)) in entries.iter().enumerate() {
-        l.keys[3 * i..3 * i + 3].copy_from_slice(&[*opcode, *left, *right]);
-        l.multiplicities[i] = *multiplicity;
-    }
-    l
-}
-
-impl Lent {
-    fn replay(&mut self, trace: &[u64]) -> Result<usize, Stopped> {
-        replay(&mut self.sizes, &mut self.keys, &mut self.multiplicities, trace)
-    }
-
-    fn record(&mut self, e: Entry) -> Result<usize, Refusal> {
-        record(&mut self.sizes, &mut self.keys, &mut self.multiplicities, e)
-    }
-}
-
-/// The entries of a step, or why there are none: the request's sentences, written anew.
-fn entries([opcode, first, second]: [u64; 3]) -> Result<Vec<Entry>, Refusal> {
-    let below = |fine: bool, entries: Vec<Entry>| if fine { Ok(entries) } else { Err(Wide) };
-    match opcode {
-        SPLIT => below(first < P, vec![Entry::new(SPLIT, first % WIDE, first / WIDE)]),
-        LOG_2_FLOOR | POP_COUNT => Ok(vec![Entry::new(opcode, first, 0)]),
-        LT | AND | POW => Ok(vec![Entry::new(opcode, first, second)]),
-        XOR => Ok(vec![Entry::new(AND, first, second)]),
-        DIV_MOD if first < WIDE && second < WIDE => match second {
-            0 => Err(ZeroDivisor),
-            d => Ok(vec![Entry::new(LT, first % d, d), Entry::new(SPLIT, first, first / d)]),
-        },
-        DIV_MOD => Err(Wide),
-        MERKLE_STEP | MERKLE_STEP_MEM => below(first < WIDE, vec![Entry::new(SPLIT, first, first / 2)]),
-        _ => Err(Stranger),
-    }
-}
 
 /// A plain walk: each step's recordings one after the other, on a copy that counts where all are done.
 fn walk(list: &mut Lent, trace: &[u64]) -> Result<usize, Stopped> {
     for (done, step) in trace.chunks(3).enumerate() {
         let mut next = list.clone();
         let made =
-            entries([step[0], step[1], step[2]]).and_then(|es| es.into_iter().try_for_each(|e| next.record(e).map(|_| ())));
+            step_entries([step[0], step[1], step[2]]).and_then(|es| es.into_iter().try_for_each(|e| next.record(e).map(|_| ())));
         made.map_err(|refusal| Stopped { refusal, done })?;
         *list = next;
     }
@@ -121,6 +75,14 @@ fn refusals_in_their_order() {
         let mut replayed = list.clone();
         assert_eq!(replayed.replay(&trace), Err(Stopped { refusal, done }), "{trace:?}");
         assert_eq!(replayed, after, "{trace:?}");
+    }
+    // 5 by count plus holds, of lt and of split; then nothing of the step is done
+    for (opcode, left, right) in [(LT, 1, 2), (SPLIT, 7, 3)] {
+        let mut held = lent(3, &[(opcode, left, right, full - 1)]);
+        held.holds[0] = 1;
+        let before = held.clone();
+        assert_eq!(held.replay(&[DIV_MOD, 7, 2]), Err(Stopped { refusal: CountFull, done: 0 }));
+        assert_eq!(held, before);
     }
     // a wrong list, also with an empty trace
     let mut wrong = lent(1, &[]);

@@ -13,7 +13,9 @@ use Rattle.words.specs.Answers.{Answer, done, declined}
 use Rattle.words.specs.Refusals.{refusalNumber}
 use Rattle.words.specs.declared.Refusal.{Refusal}
 use Rattle.words.proofs.Answers.{number-positive}
-use Rattle.c_answers.specs.Exports.{lentDue, Exported, Reported}
+use Rattle.list.specs.declared.Sizes.{Sizes}
+use Rattle.list.specs.Holds.{HeldList, heldList}
+use Rattle.c_answers.specs.Exports.{lentDue, ListLeft, Exported, Reported}
 
 -- `answers` is too short: number 1, and nothing lent is touched
 pub short : (size : ℕ) (due : Answer) (answers : List ℕ) → length answers < size → Exported size due answers 1 answers
@@ -71,3 +73,20 @@ pub lent-called : (size : ℕ) (answers before due after : List ℕ)
     → size ≤ length answers → after ≡ due → after ≡ lentDue size answers before due
 unfolding lentDue
 lent-called size answers before due after h e = rw (le-ltb (length answers) size h) e
+
+-- and so the three arrays of a lent list
+pub list-short : (size : ℕ) (answers : List ℕ) (before due : HeldList)
+    → length answers < size → ListLeft size answers before due (before .list .keys) (before .list .multiplicities) (before .holds)
+list-short size answers before due h = record {
+  keys = lent-short size answers _ _ h;
+  multiplicities = lent-short size answers _ _ h;
+  holds = lent-short size answers _ _ h;
+}
+
+pub list-called : (size : ℕ) (answers : List ℕ) (before due : HeldList) (s : Sizes) (ks ms hs : List ℕ)
+    → size ≤ length answers → heldList s ks ms hs ≡ due → ListLeft size answers before due ks ms hs
+list-called size answers before due s ks ms hs h e = record {
+  keys = lent-called size answers _ _ _ h (ap (λ (l : HeldList). l .list .keys) e);
+  multiplicities = lent-called size answers _ _ _ h (ap (λ (l : HeldList). l .list .multiplicities) e);
+  holds = lent-called size answers _ _ _ h (ap (λ (l : HeldList). l .holds) e);
+}

@@ -10,11 +10,11 @@ use lib.Seq.{sets}
 use Rattle.words.specs.Answers.{Answer}
 use Rattle.words.specs.Refusals.{refusalNumber}
 use Rattle.words.specs.declared.Refusal.the-variants.{Shape}
-use Rattle.list.specs.Lists.{U32List, u32List}
+use Rattle.list.specs.Holds.{HeldList, heldList}
 
 -- a list whose sizes are handed over as two numbers
-abbrev pub lentList : ℕ → ℕ → List ℕ → List ℕ → U32List
-lentList capacity used keys multiplicities = u32List (record { capacity = capacity; used = used }) keys multiplicities
+abbrev pub lentList : ℕ → ℕ → (keys multiplicities holds : List ℕ) → HeldList
+lentList capacity used keys multiplicities holds = heldList (record { capacity = capacity; used = used }) keys multiplicities holds
 
 -- `answers` has fewer words than stated: the function refuses with 1 before anything else is looked at
 abbrev pub tooShort : ℕ → List ℕ → Bool
@@ -37,6 +37,12 @@ reportDue size answers due = cond (tooShort size answers) answers (sets answers 
 -- another lent array afterwards: as it was where `answers` is too short, else as the call leaves it
 unfoldable pub lentDue : ℕ → List ℕ → List ℕ → List ℕ → List ℕ
 lentDue size answers before after = cond (tooShort size answers) before after
+
+-- the three arrays of a lent list afterwards
+pub record ListLeft (size : ℕ) (answers : List ℕ) (before due : HeldList) (ks ms hs : List ℕ) : Type 0 where
+  pub keys : ks ≡ lentDue size answers (before .list .keys) (due .list .keys)
+  pub multiplicities : ms ≡ lentDue size answers (before .list .multiplicities) (due .list .multiplicities)
+  pub holds : hs ≡ lentDue size answers (before .holds) (due .holds)
 
 -- the number and the words of `answers` are those that are due, and all values have a word among those stated
 pub record Exported (size : ℕ) (due : Answer) (before : List ℕ) (r : ℕ) (after : List ℕ) : Type 0 where

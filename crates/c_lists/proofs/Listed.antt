@@ -1,5 +1,5 @@
--- A list is lent as two arrays: both are due where the list is. And the two answers of a recording and of a replay. Assumes nothing.
-use Prim.Native.Nat.{ℕ, zero, suc, _/_, _≤_}
+-- The two answers of a recording, of a hold and of a replay; and the sizes afterwards. Assumes nothing.
+use Prim.Native.Nat.{ℕ, zero, suc, _/_}
 use mathlib.Core.Path.{_≡_, refl, ap, _∙_}
 use mathlib.Core.Bool.{Bool, true, false, cond}
 use mathlib.Core.List.{List, [], _∷_}
@@ -12,100 +12,102 @@ use Rattle.words.specs.declared.Judgement.the-variants.{Fine, Declined}
 use Rattle.words.proofs.Outcomes.{outcome-done, outcome-keeps}
 use Rattle.isa.specs.declared.U32TableEntry.{U32TableEntry}
 use Rattle.isa.specs.Entries.{admitted}
-use Rattle.list.specs.declared.Sizes.{Sizes}
-use Rattle.list.specs.Lists.{U32List, u32List, capacity, used}
-use Rattle.list.specs.Keys.{findKey}
-use Rattle.list_record.specs.Recording.{known, recordReason, raised, appended, recordedInto, recordAll, recordEach}
+use Rattle.list.specs.Lists.{capacity, used}
+use Rattle.list.specs.Holds.{HeldList}
+use Rattle.list_record.specs.Recording.{placeIn, known, recordReason, raised, appended, recordedInto, recordWith, recordAll, recordEach}
+use Rattle.list_record.specs.Holding.{confirmReason, confirmAll, dropReason, dropAll}
 use Rattle.list_replay.specs.declared.StepEntries.{StepEntries}
 use Rattle.list_replay.specs.declared.StepEntries.the-variants.{One, Two, Refused}
 use Rattle.list_replay.specs.Steps.{Step, stepWidth, stepAt, stepEntries}
 use Rattle.list_replay.specs.Replay.{recordTogether, stepAs, stepAll, stoppedAt, replayFrom, replayReason, replayedAs, replayAll}
 use Rattle.list_stored.specs.Stored.{readReason, readAll}
-use Rattle.c_answers.specs.Exports.{lentDue}
-use Rattle.c_answers.proofs.Exporting.{lent-called}
 use Rattle.c_lists.specs.ListAnswers.{withUsed}
 
-pub list-called : (size : ℕ) (answers ks ms ks′ ms′ : List ℕ) (s : Sizes) (due : U32List)
-    → size ≤ length answers → u32List s ks′ ms′ ≡ due
-    → (ks′ ≡ lentDue size answers ks (due .keys)) × (ms′ ≡ lentDue size answers ms (due .multiplicities))
-list-called size answers ks ms ks′ ms′ s due h e = (
-  lent-called size answers _ _ _ h (ap (λ (l : U32List). l .keys) e),
-  lent-called size answers _ _ _ h (ap (λ (l : U32List). l .multiplicities) e),
-)
-
-pub recorded : (due : Outcome U32List) (position : ℕ) (after : U32List)
-    → done (position ∷ []) ≡ due .answer → after ≡ due .left → done (position ∷ used after ∷ []) ≡ withUsed due
+pub recorded : (due : Outcome HeldList) (position : ℕ) (after : HeldList)
+    → done (position ∷ []) ≡ due .answer → after ≡ due .left → done (position ∷ used (after .list) ∷ []) ≡ withUsed due
 recorded due position after e f = rw (← e, ← f)
 
 -- the same for a replay, whose number may be any
-pub told-with : (due : Outcome U32List) (number n : ℕ) (after : U32List)
+pub told-with : (due : Outcome HeldList) (number n : ℕ) (after : HeldList)
     → record { number = number; values = n ∷ [] } ≡ due .answer → after ≡ due .left
-    → (number ≡ withUsed due .number) × (n ∷ used after ∷ [] ≡ withUsed due .values)
+    → (number ≡ withUsed due .number) × (n ∷ used (after .list) ∷ [] ≡ withUsed due .values)
 told-with due number n after e f = (ap (λ (a : Answer). a .number) e, rw (← e, ← f))
 
--- ---- the sizes afterwards, of which the C functions hand over one number: the capacity stays, and a reading's number of entries is the number
--- of places used
-pub read-used : (l : U32List) (s : List ℕ)
-    → readAll l s .answer .number ≡ 0 → readAll l s .answer .values ≡ used (readAll l s .left) ∷ []
-unfolding readAll
-read-used l s e = rw (outcome-done (readReason l s) _ _ _ e)
+-- ---- the sizes afterwards, of which the C functions hand over one number or none: the capacity stays, a reading's number of entries is the number
+-- of places used, and a confirm or drop leaves both sizes
+abbrev pub placesOf : HeldList → ℕ
+placesOf h = capacity (h .list)
 
-pub read-capacity : (l : U32List) (s : List ℕ) → capacity (readAll l s .left) ≡ capacity l
+pub read-used : (h : HeldList) (s : List ℕ)
+    → readAll h s .answer .number ≡ 0 → readAll h s .answer .values ≡ used (readAll h s .left .list) ∷ []
 unfolding readAll
-read-capacity l s = outcome-keeps capacity (readReason l s) _ _ _ refl
+read-used h s e = rw (outcome-done (readReason h s) _ _ _ e)
 
-recorded-capacity : (l : U32List) (e : U32TableEntry) → capacity (recordedInto l e) ≡ capacity l
-recorded-capacity l e = go (known l e) where
-  go : (t : Bool) → capacity (cond t (raised l (findKey l e)) (appended l e)) ≡ capacity l
+pub read-capacity : (h : HeldList) (s : List ℕ) → placesOf (readAll h s .left) ≡ placesOf h
+unfolding readAll
+read-capacity h s = outcome-keeps placesOf (readReason h s) _ _ _ refl
+
+pub confirm-sizes : (h : HeldList) (i : ℕ) → confirmAll h i .left .list .sizes ≡ h .list .sizes
+unfolding confirmAll
+confirm-sizes h i = outcome-keeps (λ (l : HeldList). l .list .sizes) (confirmReason h i) _ h _ refl
+
+pub drop-sizes : (h : HeldList) (i : ℕ) → dropAll h i .left .list .sizes ≡ h .list .sizes
+unfolding dropAll
+drop-sizes h i = outcome-keeps (λ (l : HeldList). l .list .sizes) (dropReason h i) _ h _ refl
+
+recorded-capacity : (count hold : ℕ) (h : HeldList) (e : U32TableEntry) → placesOf (recordedInto count hold h e) ≡ placesOf h
+recorded-capacity count hold h e = go (known h e) where
+  go : (t : Bool) → placesOf (cond t (raised count hold h (placeIn h e)) (appended count hold h e)) ≡ placesOf h
   go true = refl
   go false = refl
 
-pub record-capacity : (l : U32List) (e : U32TableEntry) → capacity (recordAll l e .left) ≡ capacity l
-unfolding recordAll
-record-capacity l e = outcome-keeps capacity (recordReason l e) _ l _ (recorded-capacity l (admitted e))
+-- of a recording and of a hold
+pub record-capacity : (count hold : ℕ) (h : HeldList) (e : U32TableEntry) → placesOf (recordWith count hold h e .left) ≡ placesOf h
+unfolding recordWith
+record-capacity count hold h e = outcome-keeps placesOf (recordReason h e) _ h _ (recorded-capacity count hold h (admitted e))
 
 -- and so it does with each step of a replay
-each-capacity : (l : U32List) (es : List U32TableEntry) → capacity (recordEach l es .left) ≡ capacity l
+each-capacity : (h : HeldList) (es : List U32TableEntry) → placesOf (recordEach h es .left) ≡ placesOf h
 unfolding recordEach
-each-capacity l [] = refl
-each-capacity l (e ∷ es) = go (each-capacity (recordAll l e .left) es) (eqb (recordAll l e .answer .number) 0) where
-  go : capacity (recordEach (recordAll l e .left) es .left) ≡ capacity (recordAll l e .left)
-      → (t : Bool) → capacity (cond t (recordEach (recordAll l e .left) es) (recordAll l e) .left) ≡ capacity l
-  go rest true = rest ∙ record-capacity l e
-  go rest false = record-capacity l e
+each-capacity h [] = refl
+each-capacity h (e ∷ es) = go (each-capacity (recordAll h e .left) es) (eqb (recordAll h e .answer .number) 0) where
+  go : placesOf (recordEach (recordAll h e .left) es .left) ≡ placesOf (recordAll h e .left)
+      → (t : Bool) → placesOf (cond t (recordEach (recordAll h e .left) es) (recordAll h e) .left) ≡ placesOf h
+  go rest true = rest ∙ record-capacity 1 0 h e
+  go rest false = record-capacity 1 0 h e
 
-together-capacity : (l : U32List) (es : List U32TableEntry) → capacity (recordTogether l es .left) ≡ capacity l
+together-capacity : (h : HeldList) (es : List U32TableEntry) → placesOf (recordTogether h es .left) ≡ placesOf h
 unfolding recordTogether
-together-capacity l es = go (eqb (recordEach l es .answer .number) 0) where
-  go : (t : Bool) → capacity (cond t (recordEach l es .left) l) ≡ capacity l
-  go true = each-capacity l es
+together-capacity h es = go (eqb (recordEach h es .answer .number) 0) where
+  go : (t : Bool) → placesOf (cond t (recordEach h es .left) h) ≡ placesOf h
+  go true = each-capacity h es
   go false = refl
 
-step-capacity : (l : U32List) (s : Step) → capacity (stepAll l s .left) ≡ capacity l
+step-capacity : (h : HeldList) (s : Step) → placesOf (stepAll h s .left) ≡ placesOf h
 unfolding stepAll
-step-capacity l s = go (stepEntries s) where
-  go : (es : StepEntries) → capacity (stepAs l es .left) ≡ capacity l
-  go (One e) = together-capacity l (e ∷ [])
-  go (Two e f) = together-capacity l (e ∷ f ∷ [])
+step-capacity h s = go (stepEntries s) where
+  go : (es : StepEntries) → placesOf (stepAs h es .left) ≡ placesOf h
+  go (One e) = together-capacity h (e ∷ [])
+  go (Two e f) = together-capacity h (e ∷ f ∷ [])
   go (Refused k) = refl
 
-walk-capacity : (l : U32List) (trace : List ℕ) (i n : ℕ) → capacity (replayFrom l trace i n .left) ≡ capacity l
+walk-capacity : (h : HeldList) (trace : List ℕ) (i n : ℕ) → placesOf (replayFrom h trace i n .left) ≡ placesOf h
 unfolding replayFrom
-walk-capacity l trace i zero = refl
-walk-capacity l trace i (suc n) =
-    go (walk-capacity (stepAll l (stepAt trace i) .left) trace (suc i) n) (eqb (stepAll l (stepAt trace i) .answer .number) 0)
+walk-capacity h trace i zero = refl
+walk-capacity h trace i (suc n) =
+    go (walk-capacity (stepAll h (stepAt trace i) .left) trace (suc i) n) (eqb (stepAll h (stepAt trace i) .answer .number) 0)
   where
-    go : capacity (replayFrom (stepAll l (stepAt trace i) .left) trace (suc i) n .left) ≡ capacity (stepAll l (stepAt trace i) .left)
+    go : placesOf (replayFrom (stepAll h (stepAt trace i) .left) trace (suc i) n .left) ≡ placesOf (stepAll h (stepAt trace i) .left)
         → (t : Bool)
-        → capacity
-        (cond t (replayFrom (stepAll l (stepAt trace i) .left) trace (suc i) n) (stoppedAt (stepAll l (stepAt trace i) .answer .number) i l) .left)
-        ≡ capacity l
-    go rest true = rest ∙ step-capacity l (stepAt trace i)
+        → placesOf
+        (cond t (replayFrom (stepAll h (stepAt trace i) .left) trace (suc i) n) (stoppedAt (stepAll h (stepAt trace i) .answer .number) i h) .left)
+        ≡ placesOf h
+    go rest true = rest ∙ step-capacity h (stepAt trace i)
     go rest false = refl
 
-pub replay-capacity : (l : U32List) (trace : List ℕ) → capacity (replayAll l trace .left) ≡ capacity l
+pub replay-capacity : (h : HeldList) (trace : List ℕ) → placesOf (replayAll h trace .left) ≡ placesOf h
 unfolding replayAll
-replay-capacity l trace = go (replayReason l trace) where
-  go : (j : Judgement) → capacity (replayedAs j l trace .left) ≡ capacity l
-  go Fine = walk-capacity l trace 0 (length trace / stepWidth)
+replay-capacity h trace = go (replayReason h trace) where
+  go : (j : Judgement) → placesOf (replayedAs j h trace .left) ≡ placesOf h
+  go Fine = walk-capacity h trace 0 (length trace / stepWidth)
   go (Declined k) = refl

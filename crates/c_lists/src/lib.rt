@@ -2,12 +2,10 @@
 // into `answers`.
 ghost use mathlib.Core.Path.{_≡_};
 ghost use Rattle.isa.specs.Entries.{entry};
-ghost use Rattle.list_record.specs.Plan.{planAll};
-ghost use Rattle.list_record.specs.Recording.{recordAll};
-ghost use Rattle.list_replay.specs.Replay.{replayAll};
-ghost use Rattle.list_stored.specs.Stored.{readAll, writeAll};
-ghost use Rattle.c_answers.specs.Exports.{lentList, lentDue, Exported, Reported};
-ghost use Rattle.c_lists.specs.ListAnswers.{withUsed, orderNumber, compareAll};
+ghost use Rattle.c_answers.specs.Exports.{lentList, Exported};
+ghost use Rattle.c_lists.specs.ListAnswers.{orderNumber, compareAll};
+ghost use Rattle.c_lists.specs.ListAnswers.{RecordAnswers, RecordLeaves, HoldAnswers, HoldLeaves, ConfirmLeaves, DropLeaves};
+ghost use Rattle.c_lists.specs.ListAnswers.{ReplayAnswers, ReplayLeaves, PlanAnswers, ReadAnswers, ReadLeaves, WriteAnswers, WriteLeaves};
 use c_answers::SHAPE;
 use isa::Order;
 use isa::U32TableEntry;
@@ -17,9 +15,12 @@ use list_record::Sizes;
 use list_replay::Replayed;
 use list_stored::Read;
 use list_stored::Written;
+use words::Completed;
 
 // How many words of `answers` each call states.
 const RECORD_ANSWERS: usize = 2;
+
+const HOLD_ANSWERS: usize = 2;
 
 const REPLAY_ANSWERS: usize = 2;
 
@@ -37,14 +38,14 @@ pub fn record_entry(
     used: usize,
     keys: &mut [u64],
     multiplicities: &mut [u64],
+    holds: &mut [u64],
     opcode: u64,
     left_operand: u64,
     right_operand: u64,
     answers: &mut [u64],
 ) -> u64
-    ensures answers { λ r. ⌜ Exported 2 (withUsed (recordAll (lentList capacity used (now (keys .entry)) (now (multiplicities .entry))) (entry opcode «left_operand» «right_operand»))) (now (answers .entry)) r (now (answers .exit)) ⌝ }
-    ensures keys { λ _. ⌜ now (keys .exit) ≡ lentDue 2 (now (answers .entry)) (now (keys .entry)) (recordAll (lentList capacity used (now (keys .entry)) (now (multiplicities .entry))) (entry opcode «left_operand» «right_operand») .left .keys) ⌝ }
-    ensures multiplicities { λ _. ⌜ now (multiplicities .exit) ≡ lentDue 2 (now (answers .entry)) (now (multiplicities .entry)) (recordAll (lentList capacity used (now (keys .entry)) (now (multiplicities .entry))) (entry opcode «left_operand» «right_operand») .left .multiplicities) ⌝ }
+    ensures answers { λ r. ⌜ RecordAnswers (lentList capacity used (now (keys .entry)) (now (multiplicities .entry)) (now (holds .entry))) (entry opcode «left_operand» «right_operand») (now (answers .entry)) r (now (answers .exit)) ⌝ }
+    ensures list { λ _. ⌜ RecordLeaves (lentList capacity used (now (keys .entry)) (now (multiplicities .entry)) (now (holds .entry))) (entry opcode «left_operand» «right_operand») (now (answers .entry)) (now (keys .exit)) (now (multiplicities .exit)) (now (holds .exit)) ⌝ }
 {
     if answers.len() < RECORD_ANSWERS {
         return SHAPE;
@@ -54,6 +55,7 @@ pub fn record_entry(
         sizes,
         keys,
         multiplicities,
+        holds,
         opcode,
         left_operand,
         right_operand,
@@ -69,24 +71,99 @@ pub fn record_entry(
     }
 }
 
+// Answers: the key's position, and the places used afterwards.
+pub fn hold_entry(
+    capacity: usize,
+    used: usize,
+    keys: &mut [u64],
+    multiplicities: &mut [u64],
+    holds: &mut [u64],
+    opcode: u64,
+    left_operand: u64,
+    right_operand: u64,
+    answers: &mut [u64],
+) -> u64
+    ensures answers { λ r. ⌜ HoldAnswers (lentList capacity used (now (keys .entry)) (now (multiplicities .entry)) (now (holds .entry))) (entry opcode «left_operand» «right_operand») (now (answers .entry)) r (now (answers .exit)) ⌝ }
+    ensures list { λ _. ⌜ HoldLeaves (lentList capacity used (now (keys .entry)) (now (multiplicities .entry)) (now (holds .entry))) (entry opcode «left_operand» «right_operand») (now (answers .entry)) (now (keys .exit)) (now (multiplicities .exit)) (now (holds .exit)) ⌝ }
+{
+    if answers.len() < HOLD_ANSWERS {
+        return SHAPE;
+    }
+    let sizes = Sizes { capacity, used };
+    let held = list_record::hold_u32_table_entry_by_value(
+        sizes,
+        keys,
+        multiplicities,
+        holds,
+        opcode,
+        left_operand,
+        right_operand,
+    );
+    let answer = held.answer;
+    match answer {
+        Recorded::At(at) => {
+            answers[0] = at as u64;
+            answers[1] = held.sizes.used as u64;
+            0
+        }
+        Recorded::Refused(reason) => reason.number(),
+    }
+}
+
+// It has no answers besides the number.
+pub fn confirm(
+    capacity: usize,
+    used: usize,
+    keys: &[u64],
+    multiplicities: &mut [u64],
+    holds: &mut [u64],
+    position: usize,
+) -> u64
+    ensures { λ r. ⌜ ConfirmLeaves (lentList capacity used (now (keys .entry)) (now (multiplicities .entry)) (now (holds .entry))) position r (now (multiplicities .exit)) (now (holds .exit)) ⌝ }
+{
+    let sizes = Sizes { capacity, used };
+    match list_record::confirm_hold(sizes, keys, multiplicities, holds, position) {
+        Completed::Done => 0,
+        Completed::Refused(reason) => reason.number(),
+    }
+}
+
+// It has no answers besides the number.
+pub fn drop_hold(
+    capacity: usize,
+    used: usize,
+    keys: &[u64],
+    multiplicities: &[u64],
+    holds: &mut [u64],
+    position: usize,
+) -> u64
+    ensures { λ r. ⌜ DropLeaves (lentList capacity used (now (keys .entry)) (now (multiplicities .entry)) (now (holds .entry))) position r (now (holds .exit)) ⌝ }
+{
+    let sizes = Sizes { capacity, used };
+    match list_record::drop_hold(sizes, keys, multiplicities, holds, position) {
+        Completed::Done => 0,
+        Completed::Refused(reason) => reason.number(),
+    }
+}
+
 // Answers, on a refusal too: the steps done, and the places used afterwards.
 pub fn replay(
     capacity: usize,
     used: usize,
     keys: &mut [u64],
     multiplicities: &mut [u64],
+    holds: &mut [u64],
     trace: &[u64],
     answers: &mut [u64],
 ) -> u64
-    ensures answers { λ r. ⌜ Reported 2 (withUsed (replayAll (lentList capacity used (now (keys .entry)) (now (multiplicities .entry))) (now (trace .entry)))) (now (answers .entry)) r (now (answers .exit)) ⌝ }
-    ensures keys { λ _. ⌜ now (keys .exit) ≡ lentDue 2 (now (answers .entry)) (now (keys .entry)) (replayAll (lentList capacity used (now (keys .entry)) (now (multiplicities .entry))) (now (trace .entry)) .left .keys) ⌝ }
-    ensures multiplicities { λ _. ⌜ now (multiplicities .exit) ≡ lentDue 2 (now (answers .entry)) (now (multiplicities .entry)) (replayAll (lentList capacity used (now (keys .entry)) (now (multiplicities .entry))) (now (trace .entry)) .left .multiplicities) ⌝ }
+    ensures answers { λ r. ⌜ ReplayAnswers (lentList capacity used (now (keys .entry)) (now (multiplicities .entry)) (now (holds .entry))) (now (trace .entry)) (now (answers .entry)) r (now (answers .exit)) ⌝ }
+    ensures list { λ _. ⌜ ReplayLeaves (lentList capacity used (now (keys .entry)) (now (multiplicities .entry)) (now (holds .entry))) (now (trace .entry)) (now (answers .entry)) (now (keys .exit)) (now (multiplicities .exit)) (now (holds .exit)) ⌝ }
 {
     if answers.len() < REPLAY_ANSWERS {
         return SHAPE;
     }
     let sizes = Sizes { capacity, used };
-    let made = list_replay::replay(sizes, keys, multiplicities, trace);
+    let made = list_replay::replay(sizes, keys, multiplicities, holds, trace);
     let answer = made.answer;
     match answer {
         Replayed::Done(steps) => {
@@ -140,15 +217,16 @@ pub fn plan(
     used: usize,
     keys: &[u64],
     multiplicities: &[u64],
+    holds: &[u64],
     answers: &mut [u64],
 ) -> u64
-    ensures { λ r. ⌜ Exported 2 (planAll (lentList capacity used (now (keys .entry)) (now (multiplicities .entry)))) (now (answers .entry)) r (now (answers .exit)) ⌝ }
+    ensures { λ r. ⌜ PlanAnswers (lentList capacity used (now (keys .entry)) (now (multiplicities .entry)) (now (holds .entry))) (now (answers .entry)) r (now (answers .exit)) ⌝ }
 {
     if answers.len() < PLAN_ANSWERS {
         return SHAPE;
     }
     let sizes = Sizes { capacity, used };
-    match list_record::plan(sizes, keys, multiplicities) {
+    match list_record::plan(sizes, keys, multiplicities, holds) {
         Planned::Heights { height, padded } => {
             answers[0] = height;
             answers[1] = padded;
@@ -165,17 +243,17 @@ pub fn read(
     used: usize,
     keys: &mut [u64],
     multiplicities: &mut [u64],
+    holds: &mut [u64],
     answers: &mut [u64],
 ) -> u64
-    ensures answers { λ r. ⌜ Exported 1 (readAll (lentList capacity used (now (keys .entry)) (now (multiplicities .entry))) (now (bytes .entry)) .answer) (now (answers .entry)) r (now (answers .exit)) ⌝ }
-    ensures keys { λ _. ⌜ now (keys .exit) ≡ lentDue 1 (now (answers .entry)) (now (keys .entry)) (readAll (lentList capacity used (now (keys .entry)) (now (multiplicities .entry))) (now (bytes .entry)) .left .keys) ⌝ }
-    ensures multiplicities { λ _. ⌜ now (multiplicities .exit) ≡ lentDue 1 (now (answers .entry)) (now (multiplicities .entry)) (readAll (lentList capacity used (now (keys .entry)) (now (multiplicities .entry))) (now (bytes .entry)) .left .multiplicities) ⌝ }
+    ensures answers { λ r. ⌜ ReadAnswers (lentList capacity used (now (keys .entry)) (now (multiplicities .entry)) (now (holds .entry))) (now (bytes .entry)) (now (answers .entry)) r (now (answers .exit)) ⌝ }
+    ensures list { λ _. ⌜ ReadLeaves (lentList capacity used (now (keys .entry)) (now (multiplicities .entry)) (now (holds .entry))) (now (bytes .entry)) (now (answers .entry)) (now (keys .exit)) (now (multiplicities .exit)) (now (holds .exit)) ⌝ }
 {
     if answers.len() < READ_ANSWERS {
         return SHAPE;
     }
     let sizes = Sizes { capacity, used };
-    let r = list_stored::read_list(bytes, sizes, keys, multiplicities);
+    let r = list_stored::read_list(bytes, sizes, keys, multiplicities, holds);
     let answer = r.answer;
     match answer {
         Read::Entries(n) => {
@@ -192,17 +270,18 @@ pub fn write(
     used: usize,
     keys: &[u64],
     multiplicities: &[u64],
+    holds: &[u64],
     out: &mut [u8],
     answers: &mut [u64],
 ) -> u64
-    ensures answers { λ r. ⌜ Exported 1 (writeAll (lentList capacity used (now (keys .entry)) (now (multiplicities .entry))) (now (out .entry)) .answer) (now (answers .entry)) r (now (answers .exit)) ⌝ }
-    ensures bytes { λ _. ⌜ now (out .exit) ≡ lentDue 1 (now (answers .entry)) (now (out .entry)) (writeAll (lentList capacity used (now (keys .entry)) (now (multiplicities .entry))) (now (out .entry)) .left) ⌝ }
+    ensures answers { λ r. ⌜ WriteAnswers (lentList capacity used (now (keys .entry)) (now (multiplicities .entry)) (now (holds .entry))) (now (out .entry)) (now (answers .entry)) r (now (answers .exit)) ⌝ }
+    ensures bytes { λ _. ⌜ WriteLeaves (lentList capacity used (now (keys .entry)) (now (multiplicities .entry)) (now (holds .entry))) (now (out .entry)) (now (answers .entry)) (now (out .exit)) ⌝ }
 {
     if answers.len() < WRITE_ANSWERS {
         return SHAPE;
     }
     let sizes = Sizes { capacity, used };
-    match list_stored::write_list(sizes, keys, multiplicities, out) {
+    match list_stored::write_list(sizes, keys, multiplicities, holds, out) {
         Written::Length(length) => {
             answers[0] = length as u64;
             0

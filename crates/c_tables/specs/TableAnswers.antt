@@ -6,6 +6,7 @@ use mathlib.Core.List.{List, [], _∷_}
 use lib.ListN.{length, getD}
 use Rattle.words.specs.Answers.{Answer}
 use Rattle.words.specs.declared.Judgement.the-variants.{Fine}
+use Rattle.list.specs.Holds.{HeldList}
 use Rattle.table.specs.Columns.{rowAt, rowCount}
 use Rattle.sums.specs.LookupSum.{lookupSum}
 use Rattle.air.specs.Check.{checkReason, checkAll, ConstraintsHold}
@@ -13,7 +14,7 @@ use Rattle.air.specs.Claim.{RowTells, DenominatorsNotZero, lastSum}
 use Rattle.fill.specs.Filling.{fillAll}
 use Rattle.fill.specs.Extending.{extendAll}
 use Rattle.client_sum.specs.Client.{clientAll}
-use Rattle.c_answers.specs.Exports.{lentList, lentDue, Exported}
+use Rattle.c_answers.specs.Exports.{lentDue, Exported}
 
 -- the check "answers zero": the word 0, and nothing more; else 1, then "group 0 to 3, (upper) row, index from 0 and three-word value"
 abbrev pub verdictWords : List ℕ → List ℕ
@@ -25,13 +26,11 @@ verdictDue due = record { number = due .number; values = verdictWords (due .valu
 
 -- ---- what the functions hand over, each by the number of words of `answers` that it states
 -- fill: the height
-abbrev pub FillAnswers : (capacity used : ℕ) → (keys multiplicities table answers : List ℕ) → (r : ℕ) → (after : List ℕ) → Type 0
-FillAnswers capacity used keys multiplicities table answers r after =
-    Exported 1 (fillAll (lentList capacity used keys multiplicities) table .answer) answers r after
+abbrev pub FillAnswers : HeldList → (table answers : List ℕ) → (r : ℕ) → (after : List ℕ) → Type 0
+FillAnswers h table answers r after = Exported 1 (fillAll h table .answer) answers r after
 
-abbrev pub FillLeaves : (capacity used : ℕ) → (keys multiplicities table answers tableAfter : List ℕ) → Type 0
-FillLeaves capacity used keys multiplicities table answers tableAfter =
-    tableAfter ≡ lentDue 1 answers table (fillAll (lentList capacity used keys multiplicities) table .left)
+abbrev pub FillLeaves : HeldList → (table answers tableAfter : List ℕ) → Type 0
+FillLeaves h table answers tableAfter = tableAfter ≡ lentDue 1 answers table (fillAll h table .left)
 
 -- extend: the three words of the last sum
 abbrev pub ExtendAnswers : (table aux challenges answers : List ℕ) → (r : ℕ) → (after : List ℕ) → Type 0

@@ -2,6 +2,7 @@
 // `answers`.
 ghost use mathlib.Core.Path.{_≡_};
 ghost use Rattle.fill.specs.Padding.{padAll};
+ghost use Rattle.c_answers.specs.Exports.{lentList};
 ghost use Rattle.c_tables.specs.TableAnswers.{FillAnswers, FillLeaves, ExtendAnswers, ExtendLeaves};
 ghost use Rattle.c_tables.specs.TableAnswers.{CheckAnswers, SaysZeroIff, SaysZeroSound, SaysZeroSums};
 ghost use Rattle.c_tables.specs.TableAnswers.{ClientAnswers};
@@ -28,17 +29,18 @@ pub fn fill(
     used: usize,
     keys: &[u64],
     multiplicities: &[u64],
+    holds: &[u64],
     table: &mut [u64],
     answers: &mut [u64],
 ) -> u64
-    ensures answers { λ r. ⌜ FillAnswers capacity used (now (keys .entry)) (now (multiplicities .entry)) (now (table .entry)) (now (answers .entry)) r (now (answers .exit)) ⌝ }
-    ensures table { λ _. ⌜ FillLeaves capacity used (now (keys .entry)) (now (multiplicities .entry)) (now (table .entry)) (now (answers .entry)) (now (table .exit)) ⌝ }
+    ensures answers { λ r. ⌜ FillAnswers (lentList capacity used (now (keys .entry)) (now (multiplicities .entry)) (now (holds .entry))) (now (table .entry)) (now (answers .entry)) r (now (answers .exit)) ⌝ }
+    ensures table { λ _. ⌜ FillLeaves (lentList capacity used (now (keys .entry)) (now (multiplicities .entry)) (now (holds .entry))) (now (table .entry)) (now (answers .entry)) (now (table .exit)) ⌝ }
 {
     if answers.len() < FILL_ANSWERS {
         return SHAPE;
     }
     let sizes = Sizes { capacity, used };
-    match fill::fill(sizes, keys, multiplicities, table) {
+    match fill::fill(sizes, keys, multiplicities, holds, table) {
         Filled::Rows(height) => {
             answers[0] = height;
             0

@@ -1,106 +1,201 @@
--- THE LAW of the client's sum: for every list of accepted recordings from a fresh list (client-is-server), and for an accepted replay
--- (replay-is-server). From a fresh list the sum over the places is (0, 0, 0), and each accepted recording adds the inverse of its denominator, as the
--- client does; the sum over the places is the sum over the first rows, which is what fill, pad and extend make. The list stays admitted, so fill does
--- not decline; each key is a recording's, so its denominator is not zero and extend does not. Assumes nothing.
-use Prim.Native.Nat.{ℕ}
+-- THE LAW of the client's sum: for every list of accepted recordings from a fresh list (client-is-server), for an accepted replay (replay-is-server), and
+-- for any calls after which no hold is open (calls-are-server). From a fresh list the sum over the places is (0, 0, 0), and each accepted recording and
+-- confirm adds the inverse of its denominator, as the client does, while a hold and a drop add nothing; the sum over the places is the sum over the first
+-- rows, which is what fill, pad and extend make. The list stays admitted and no hold is open, so fill does not decline; no key's denominator is zero, so
+-- extend does not. Assumes nothing.
+use Prim.Native.Nat.{ℕ, _+_}
 use mathlib.Core.Path.{_≡_, sym, ap, _∙_, subst}
 use mathlib.Core.Logic.{_≢_}
-use mathlib.Core.List.{List, [], flatMap}
+use mathlib.Core.List.{List, [], _∷_, _++_, flatMap}
 use native.Mathlib.Omega.{arith}
 use Rattle.words.specs.Outcomes.{Outcome}
 use Rattle.words.specs.declared.Judgement.the-variants.{Fine}
 use Rattle.words.proofs.Outcomes.{answered-fine}
-use Rattle.xfield.specs.Extension.{Ext, zeroX}
+use Rattle.xfield.specs.Extension.{Ext, zeroX, addX}
+use Rattle.xfield.specs.Inverses.{invX}
 use Rattle.isa.specs.declared.U32TableEntry.{U32TableEntry}
+use Rattle.isa.specs.Entries.{judgeAsItIs, judgeEntry, admitted}
+use Rattle.isa.proofs.Entries.{judged-admissible, admissible-same, admissible-fine}
 use Rattle.list.specs.Lists.{U32List}
 use Rattle.list.specs.Heights.{listHeight}
-use Rattle.list.proofs.JudgedLists.{shaped, ListAdmitted}
+use Rattle.list.specs.Holds.{HeldList, openHold, sectionList, judgeHeld}
+use Rattle.list.proofs.JudgedLists.{ListAdmitted, admitted-fine}
+use Rattle.list.proofs.HeldLists.{HeldShaped, held-shaped, held-shape-fine, held-fine}
 use Rattle.list_record.specs.Recording.{recordEach}
 use Rattle.list_record.proofs.RecordEach.{numberOf}
-use Rattle.list_record.proofs.Views.{EachPlace}
-use Rattle.list_record.proofs.RecordViews.{viewOf, each-keeps-admitted, each-entry, each-key}
+use Rattle.list_record.proofs.Views.{View, EachPlace, changed-each, appended-each}
+use Rattle.list_record.proofs.RecordViews.{viewOf, PlaceAdmitted, PlaceClosed, places-admitted, places-closed, EachEntry}
+use Rattle.list_record.proofs.RecordViews.{each-shaped, each-keeps-admitted, each-keeps-closed, each-entry, each-key}
 use Rattle.list_replay.specs.Replay.{replayAll, traceEntries}
 use Rattle.list_replay.proofs.Replays.{replay-records}
+use Rattle.list_laws.specs.Calls.{Call, after, counted, Fresh}
+use Rattle.list_laws.proofs.Carried.{Carried, calls-carry, calls-shaped}
+use Rattle.list_laws.proofs.Placed.{StandsIn, counted-placed}
 use Rattle.table.specs.Challenges.{Challenges, challengesOf}
 use Rattle.sums.specs.RunningSum.{elementWords}
 use Rattle.sums.proofs.PlainSums.{sumX}
 use Rattle.fill.specs.Filling.{fillReason}
 use Rattle.four_calls.specs.FourCalls.{firstRows, sumFrom, extendRefusals, NoneRefuses}
 use Rattle.four_calls.proofs.FourCalls.{none-refuses, four-calls}
-use Rattle.client_sum.specs.Client.{entryDenominator, clientSum, clientAll}
+use Rattle.client_sum.specs.Client.{entryDenominator, clientSum, clientReason, clientAll}
 use Rattle.client_sum.proofs.Sums.{client-none}
-use Rattle.client_law.specs.ClientLaw.{Fresh, NoZeroDenominator, RightlyLent, requestWords, SumsAgree, ClientIsServer, ReplayIsServer}
-use Rattle.client_law.proofs.TermSums.{termSum, recordings-sum}
+use Rattle.client_law.specs.ClientLaw.{NoZeroDenominator, NoZeroSection, RightlyLent, requestWords, SumsAgree}
+use Rattle.client_law.specs.ClientLaw.{ClientIsServer, ReplayIsServer, CallsAreServer}
+use Rattle.client_law.proofs.TermSums.{termSum, counted-sum, kept-sum, new-sum, none-sum, client-more, recordings-sum}
 use Rattle.client_law.proofs.Requests.{client-fine, not-zero}
 use Rattle.client_law.proofs.Servers.{server-sum, none-zero, fill-fine, extend-fine, last-sum}
 
--- ---- a fresh list
+-- ---- what the law needs of a list h and of what was counted, es: both ends' calls do their work, and the sums are one
 
-fresh-admitted : (l : U32List) → Fresh l → ListAdmitted l
-fresh-admitted l f = record {
-  shape = shaped l (f .shape);
-  entry = λ i h. absurd (omega (arith, f .unused));
-  multiplicity = λ i h. absurd (omega (arith, f .unused));
-}
-
-fresh-sum : (challenges : List ℕ) (l : U32List) → Fresh l → termSum (challengesOf challenges) (viewOf l) ≡ clientSum (requestWords []) challenges
-unfolding termSum sumX viewOf flatMap
-fresh-sum challenges l f = rw (f .unused) (sym (client-none challenges))
-
-fresh-each : (P : U32TableEntry → ℕ → Type 0) (l : U32List) → Fresh l → EachPlace P (viewOf l)
-unfolding viewOf
-fresh-each P l f i h = absurd (omega (arith, f .unused))
-
--- ---- the law
-
-module _ (l : U32List) (es : List U32TableEntry) (table aux challenges : List ℕ) (fresh : Fresh l) (z : numberOf (recordEach l es) ≡ 0)
-    (n : NoZeroDenominator (challengesOf challenges) es) (lent : RightlyLent (listHeight (recordEach l es .left)) table aux challenges) where
+module _ (h : HeldList) (es : List U32TableEntry) (table aux challenges : List ℕ) (judged : judgeHeld h ≡ Fine)
+    (same : termSum (challengesOf challenges) (viewOf h) ≡ clientSum (requestWords es) challenges)
+    (asks : clientReason (requestWords es) challenges ≡ Fine) (n : NoZeroSection (challengesOf challenges) (sectionList h))
+    (lent : RightlyLent (listHeight (sectionList h)) table aux challenges) where
   abbrev c : Challenges
   c = challengesOf challenges
 
-  abbrev after : U32List
-  after = recordEach l es .left
+  abbrev l : U32List
+  l = sectionList h
 
   abbrev theSum : Ext
   theSum = clientSum (requestWords es) challenges
 
   -- the two sums
-  sums-same : sumFrom c zeroX (firstRows after) ≡ theSum
-  sums-same = server-sum c after ∙ recordings-sum challenges l [] es z (fresh-sum challenges l fresh)
+  sums-same : sumFrom c zeroX (firstRows l) ≡ theSum
+  sums-same = server-sum c h ∙ same
 
-  fills : fillReason after table ≡ Fine
-  fills = fill-fine after table aux challenges lent (each-keeps-admitted l es z (fresh-admitted l fresh))
+  fills : fillReason h table ≡ Fine
+  fills = fill-fine h table aux challenges lent judged
 
-  extends : extendRefusals after table aux challenges ≡ Fine
-  extends =
-      extend-fine after table aux challenges lent
-      (none-zero c after
-      (each-key (λ k. entryDenominator c k ≢ zeroX) l es z (fresh-each (λ k m. entryDenominator c k ≢ zeroX) l fresh) (not-zero challenges es n)))
+  extends : extendRefusals l table aux challenges ≡ Fine
+  extends = extend-fine h table aux challenges lent (none-zero c l n)
 
-  none : NoneRefuses after table aux challenges (listHeight after) (elementWords theSum)
+  none : NoneRefuses h table aux challenges (listHeight l) (elementWords theSum)
   none =
-      subst (λ (x : Ext). NoneRefuses after table aux challenges (listHeight after) (elementWords x)) sums-same
-      (none-refuses after table aux challenges fills extends)
+      subst (λ (x : Ext). NoneRefuses h table aux challenges (listHeight l) (elementWords x)) sums-same
+      (none-refuses h table aux challenges fills extends)
 
-  sums-agree : SumsAgree after es table aux challenges
+  sums-agree : SumsAgree h es table aux challenges
   unfolding clientAll
   sums-agree = record {
-    client =
-        answered-fine (elementWords theSum)
-        (client-fine challenges es (lent .challenges-shape) (lent .challenges-reduced) (each-entry l es z) n);
+    client = answered-fine (elementWords theSum) asks;
     server = none;
-    last = λ h. last-sum after table aux challenges lent fills extends h ∙ sums-same;
-    zero = λ h. four-calls after table aux challenges (listHeight after) (elementWords theSum) h none .zero;
+    last = λ some. last-sum h table aux challenges lent fills extends some ∙ sums-same;
+    zero = λ some. four-calls h table aux challenges (listHeight l) (elementWords theSum) some none .zero;
   }
 
-pub client-is-server : (l : U32List) (es : List U32TableEntry) (table aux challenges : List ℕ) → ClientIsServer l es table aux challenges
-client-is-server l es table aux challenges fresh z n lent = sums-agree l es table aux challenges fresh z n lent
+-- an admitted list with no open hold is judged fine
+judged-fine : (h : HeldList) → HeldShaped h → openHold h ≡ Fine → EachPlace PlaceAdmitted (viewOf h) → judgeHeld h ≡ Fine
+unfolding sectionList
+judged-fine h s o each = held-fine h (held-shape-fine h s) o (admitted-fine (h .list) (places-admitted h (s .list) each))
+
+-- ---- a fresh list
+
+fresh-each : (P : U32TableEntry → ℕ → ℕ → Type 0) (h : HeldList) → Fresh h → EachPlace P (viewOf h)
+unfolding viewOf
+fresh-each P h f i b = absurd (omega (arith, f .unused))
+
+fresh-admitted : (h : HeldList) → Fresh h → ListAdmitted (h .list)
+fresh-admitted h f = places-admitted h (held-shaped h (f .shape) .list) (fresh-each PlaceAdmitted h f)
+
+fresh-sum : (challenges : List ℕ) (h : HeldList) → Fresh h → termSum (challengesOf challenges) (viewOf h) ≡ clientSum (requestWords []) challenges
+unfolding termSum sumX viewOf flatMap
+fresh-sum challenges h f = rw (f .unused) (sym (client-none challenges))
+
+-- ---- recordings one after the other
+
+keys-section : (c : Challenges) (h : HeldList) → EachPlace (λ k m g. entryDenominator c k ≢ zeroX) (viewOf h)
+    → NoZeroSection c (sectionList h)
+unfolding viewOf sectionList
+keys-section c h each = each
+
+pub client-is-server : (h : HeldList) (es : List U32TableEntry) (table aux challenges : List ℕ) → ClientIsServer h es table aux challenges
+unfolding sectionList
+client-is-server h es table aux challenges fresh z n lent =
+    let c = challengesOf challenges in
+    let m = recordEach h es .left in
+    let s = each-shaped h es z (held-shaped h (fresh .shape)) in
+    let o = places-closed m (each-keeps-closed h es z (fresh-each PlaceClosed h fresh)) in
+    let a = each-keeps-admitted h es z (fresh-admitted h fresh) in
+    sums-agree m es table aux challenges
+    (held-fine m (held-shape-fine m s) o (admitted-fine (m .list) a))
+    (recordings-sum challenges h [] es z (fresh-sum challenges h fresh))
+    (client-fine challenges es (lent .challenges-shape) (lent .challenges-reduced) (each-entry h es z) n)
+    (keys-section c m
+    (each-key (λ k. entryDenominator c k ≢ zeroX) h es z (fresh-each (λ k m g. entryDenominator c k ≢ zeroX) h fresh) (not-zero challenges es n)))
+    lent
 
 -- an accepted replay is its steps' entries recorded one after the other
-pub replay-is-server : (l : U32List) (trace table aux challenges : List ℕ) → ReplayIsServer l trace table aux challenges
-replay-is-server l trace table aux challenges fresh z n lent =
-    let same = replay-records l trace z in
-    let left : recordEach l (traceEntries trace) .left ≡ replayAll l trace .left = ap (λ (o : Outcome U32List). o .left) same in
-    subst (λ (m : U32List). SumsAgree m (traceEntries trace) table aux challenges) left
-    (client-is-server l (traceEntries trace) table aux challenges fresh (ap numberOf same) n
-    (subst (λ (m : U32List). RightlyLent (listHeight m) table aux challenges) (sym left) lent))
+pub replay-is-server : (h : HeldList) (trace table aux challenges : List ℕ) → ReplayIsServer h trace table aux challenges
+replay-is-server h trace table aux challenges fresh z n lent =
+    let same = replay-records h trace z in
+    let left : recordEach h (traceEntries trace) .left ≡ replayAll h trace .left = ap (λ (o : Outcome HeldList). o .left) same in
+    subst (λ (m : HeldList). SumsAgree m (traceEntries trace) table aux challenges) left
+    (client-is-server h (traceEntries trace) table aux challenges fresh (ap numberOf same) n
+    (subst (λ (m : HeldList). RightlyLent (listHeight (sectionList m)) table aux challenges) (sym left) lent))
+
+-- ---- any calls
+
+as-it-is : (k : U32TableEntry) → judgeAsItIs k ≡ Fine → admitted k ≡ k
+as-it-is k q = admissible-same k (judged-admissible k q)
+
+module _ (challenges : List ℕ) where
+  -- the keys are admitted, and the sum over the places is the client's over what was counted
+  abbrev Priced : View → List U32TableEntry → Type 0
+  Priced v es = EachPlace PlaceAdmitted v × (termSum (challengesOf challenges) v ≡ clientSum (requestWords es) challenges)
+
+  -- one more of an admitted key
+  priced-more : (a b : View) (k : U32TableEntry) (es : List U32TableEntry) → judgeAsItIs k ≡ Fine
+      → termSum (challengesOf challenges) a ≡ clientSum (requestWords es) challenges
+      → termSum (challengesOf challenges) b ≡ addX (termSum (challengesOf challenges) a) (invX (entryDenominator (challengesOf challenges) k))
+      → termSum (challengesOf challenges) b ≡ clientSum (requestWords (es ++ (k ∷ []))) challenges
+  priced-more a b k es fine same more =
+      let c = challengesOf challenges in
+      more
+      ∙ ap (λ (x : Ext). addX x (invX (entryDenominator c k))) same
+      ∙ ap (λ (g : U32TableEntry). addX (clientSum (requestWords es) challenges) (invX (entryDenominator c g))) (sym (as-it-is k fine))
+      ∙ client-more challenges es k
+
+  priced-carried : Carried Priced
+  priced-carried =
+      let c = challengesOf challenges in
+      record {
+        counted = λ a b i g es m r s.
+            let fine = s .0 i (r .inside) .0 in
+            (changed-each PlaceAdmitted r (s .0) (fine, m), priced-more a b (a .key i) es fine (s .1) (counted-sum c r));
+        kept = λ a b i g es r s. (changed-each PlaceAdmitted r (s .0) (s .0 i (r .inside)), kept-sum c r ∙ s .1);
+        new = λ a b k g es fine u r s. (appended-each PlaceAdmitted r (s .0) (fine, omega arith), priced-more a b k es fine (s .1) (new-sum c r));
+        none = λ a b k g es fine u r s. (appended-each PlaceAdmitted r (s .0) (fine, omega arith), none-sum c r ∙ s .1);
+      }
+
+-- what is counted stands at a used place of an admitted list
+module _ (c : Challenges) (h : HeldList) (each : EachPlace PlaceAdmitted (viewOf h)) where
+  standing-fine : (e : U32TableEntry) → StandsIn h e → judgeAsItIs e ≡ Fine
+  unfolding viewOf
+  standing-fine e s = subst (λ (k : U32TableEntry). judgeAsItIs k ≡ Fine) (s .2) (each (s .0) (s .1) .0)
+
+  standing-entries : (es : List U32TableEntry) → EachEntry (StandsIn h) es → EachEntry (λ e. judgeEntry e ≡ Fine) es
+  standing-entries [] s = tt
+  standing-entries (e ∷ es) s = (admissible-fine e (judged-admissible e (standing-fine e (s .0))), standing-entries es (s .1))
+
+  standing-denominators : (es : List U32TableEntry) → EachEntry (StandsIn h) es → NoZeroSection c (sectionList h) → NoZeroDenominator c es
+  unfolding sectionList
+  standing-denominators [] s n = tt
+  standing-denominators (e ∷ es) s n = (
+    subst (λ (k : U32TableEntry). entryDenominator c k ≢ zeroX) (s .0 .2 ∙ sym (as-it-is e (standing-fine e (s .0)))) (n (s .0 .0) (s .0 .1)),
+    standing-denominators es (s .1) n,
+  )
+
+pub calls-are-server : (h : HeldList) (cs : List Call) (table aux challenges : List ℕ) → CallsAreServer h cs table aux challenges
+calls-are-server h cs table aux challenges fresh closed n lent =
+    let m = after h cs in
+    let es = counted h cs in
+    let s = calls-shaped h cs (held-shaped h (fresh .shape)) in
+    let t = calls-carry (Priced challenges) (priced-carried challenges) h cs []
+    (fresh-each PlaceAdmitted h fresh, fresh-sum challenges h fresh) in
+    let at = counted-placed h cs fresh in
+    let c = challengesOf challenges in
+    sums-agree m es table aux challenges (judged-fine m s closed (t .0)) (t .1)
+    (client-fine challenges es (lent .challenges-shape) (lent .challenges-reduced) (standing-entries c m (t .0) es at)
+    (standing-denominators c m (t .0) es at n))
+    n lent

@@ -2,3 +2,4 @@ pub mod Requests
 pub mod TermSums
 pub mod Servers
 pub mod ClientLaw
+pub mod DroppedKeys

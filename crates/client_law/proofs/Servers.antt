@@ -1,4 +1,4 @@
--- The table's end, of an admitted list. The sum over its first rows is that over its places (server-sum). Where no key's denominator is zero and what
+-- The table's end, of an admitted list with no open hold. The sum over its first rows is that over its places (server-sum). Where no key's denominator is zero and what
 -- is lent is right, neither fill nor extend declines (fill-fine, extend-fine), and the last sum stands in the last row of aux (last-sum). Assumes nothing.
 use Prim.Native.Nat.{ℕ, zero, suc, _+_, _-_, _≤_, _<_}
 use mathlib.Core.Path.{_≡_, refl, sym, ap, _∙_}
@@ -7,7 +7,8 @@ use mathlib.Core.List.{List, [], _∷_, _++_}
 use mathlib.Core.Logic.{_≢_}
 use native.Mathlib.Omega.{arith}
 use borrow.Author.Tests.{le-ltb}
-use Rattle.words.specs.Places.{placesFrom}
+use Rattle.words.specs.Places.{placesFrom, places}
+use Rattle.words.proofs.Places.{places-more}
 use Rattle.words.specs.Outcomes.{Outcome}
 use Rattle.words.specs.declared.Judgement.the-variants.{Fine}
 use Rattle.words.specs.declared.Refusal.the-variants.{Shape, Short, Unreduced, Flat}
@@ -17,10 +18,8 @@ use Rattle.xfield.specs.Extension.{Ext, zeroX, addX, isZeroX}
 use Rattle.xfield.proofs.Laws.{reduced-same, isZeroX-no}
 use Rattle.isa.specs.declared.U32TableEntry.{U32TableEntry}
 use Rattle.list.specs.Lists.{U32List, used, entryAt, multiplicityAt}
-use Rattle.list.specs.Heights.{sectionPlacesTo, listHeight}
-use Rattle.list.proofs.Places.{section-places-to}
-use Rattle.list.proofs.JudgedLists.{ListAdmitted, admitted-fine, every-place, places-more}
-use Rattle.list_record.proofs.Views.{EachPlace}
+use Rattle.list.specs.Heights.{listHeight}
+use Rattle.list.specs.Holds.{HeldList, sectionList, judgeHeld}
 use Rattle.list_record.proofs.RecordViews.{viewOf}
 use Rattle.table.specs.Columns.{Row, rowCount, auxAt}
 use Rattle.table.specs.Challenges.{Challenges, challengesOf}
@@ -36,7 +35,7 @@ use Rattle.four_calls.proofs.Calls.{fill-answer, fill-done}
 use Rattle.four_calls.proofs.Sums.{sum-join}
 use Rattle.four_calls.proofs.FourCalls.{padded-rows, after-fill}
 use Rattle.client_sum.specs.Client.{entryDenominator}
-use Rattle.client_law.specs.ClientLaw.{RightlyLent}
+use Rattle.client_law.specs.ClientLaw.{RightlyLent, NoZeroSection}
 use Rattle.client_law.proofs.Requests.{entry-reduced}
 use Rattle.client_law.proofs.TermSums.{termAt, termSum}
 
@@ -48,18 +47,18 @@ rows-append l [] js = refl
 rows-append l (i ∷ is) js = ap (λ (rs : List Row). firstRow (entryAt l i) (multiplicityAt l i) ∷ rs) (rows-append l is js)
 
 -- of the first n places
-sum-to : (c : Challenges) (l : U32List) (n : ℕ) → sumFrom c zeroX (firstRowsAt l (sectionPlacesTo l n)) ≡ sumX (termAt c (viewOf l)) n
-unfolding sumFrom firstRowsAt sectionPlacesTo sumX firstRow viewOf
-sum-to c l zero = refl
-sum-to c l (suc n) =
-    ap (λ (is : List ℕ). sumFrom c zeroX (firstRowsAt l is)) (places-more l n (every-place l n))
-    ∙ ap (sumFrom c zeroX) (rows-append l (sectionPlacesTo l n) (n ∷ []))
-    ∙ sum-join c zeroX (firstRowsAt l (sectionPlacesTo l n)) (firstRowsAt l (n ∷ []))
-    ∙ ap (λ (x : Ext). addX x (termAt c (viewOf l) n)) (sum-to c l n)
+sum-to : (c : Challenges) (h : HeldList) (n : ℕ) → sumFrom c zeroX (firstRowsAt (h .list) (places n)) ≡ sumX (termAt c (viewOf h)) n
+unfolding sumFrom firstRowsAt placesFrom sumX firstRow viewOf
+sum-to c h zero = refl
+sum-to c h (suc n) =
+    ap (λ (is : List ℕ). sumFrom c zeroX (firstRowsAt (h .list) is)) (sym (places-more n))
+    ∙ ap (sumFrom c zeroX) (rows-append (h .list) (places n) (n ∷ []))
+    ∙ sum-join c zeroX (firstRowsAt (h .list) (places n)) (firstRowsAt (h .list) (n ∷ []))
+    ∙ ap (λ (x : Ext). addX x (termAt c (viewOf h) n)) (sum-to c h n)
 
-pub server-sum : (c : Challenges) (l : U32List) → sumFrom c zeroX (firstRows l) ≡ termSum c (viewOf l)
-unfolding termSum viewOf
-server-sum c l = sum-to c l (used l)
+pub server-sum : (c : Challenges) (h : HeldList) → sumFrom c zeroX (firstRows (sectionList h)) ≡ termSum c (viewOf h)
+unfolding termSum viewOf sectionList
+server-sum c h = sum-to c h (used (h .list))
 
 -- ---- no first row's denominator is zero
 
@@ -76,20 +75,20 @@ none-from c l i (suc n) f =
       none-from c l (suc i) n (λ j a b. f j (omega arith) (omega arith)),
     )
 
-pub none-zero : (c : Challenges) (l : U32List) → EachPlace (λ k m. entryDenominator c k ≢ zeroX) (viewOf l) → noneZero c (firstRows l) ≡ true
-unfolding viewOf
-none-zero c l each =
-    ap (λ (is : List ℕ). noneZero c (firstRowsAt l is)) (section-places-to l (used l))
-    ∙ none-from c l 0 (used l) (λ j a b. each j (omega arith))
+pub none-zero : (c : Challenges) (l : U32List) → NoZeroSection c l → noneZero c (firstRows l) ≡ true
+none-zero c l each = none-from c l 0 (used l) (λ j a b. each j (omega arith))
 
 -- ---- nothing is declined
 
-module _ (l : U32List) (table aux challenges : List ℕ) (lent : RightlyLent (listHeight l) table aux challenges) where
-  pub fill-fine : ListAdmitted l → fillReason l table ≡ Fine
+module _ (h : HeldList) (table aux challenges : List ℕ) (lent : RightlyLent (listHeight (sectionList h)) table aux challenges) where
+  abbrev l : U32List
+  l = sectionList h
+
+  pub fill-fine : judgeHeld h ≡ Fine → fillReason h table ≡ Fine
   unfolding fillReason
-  fill-fine a =
+  fill-fine judged =
       or-next _ (decline-not-true Shape (lent .table-shape))
-      ∙ or-next _ (admitted-fine l a)
+      ∙ or-next _ judged
       ∙ decline-false Short (le-ltb (rowCount table) (listHeight l) (lent .room))
 
   pub extend-fine : noneZero (challengesOf challenges) (firstRows l) ≡ true → extendRefusals l table aux challenges ≡ Fine
@@ -100,14 +99,14 @@ module _ (l : U32List) (table aux challenges : List ℕ) (lent : RightlyLent (li
       ∙ decline-not-true Flat n
 
   -- the sum over the first rows stands in the last row
-  pub last-sum : fillReason l table ≡ Fine → extendRefusals l table aux challenges ≡ Fine → 0 < rowCount table
-      → auxAt (extendedAux l table (listHeight l) aux challenges) (rowCount table - 1) ≡ sumFrom (challengesOf challenges) zeroX (firstRows l)
+  pub last-sum : fillReason h table ≡ Fine → extendRefusals l table aux challenges ≡ Fine → 0 < rowCount table
+      → auxAt (extendedAux h table (listHeight l) aux challenges) (rowCount table - 1) ≡ sumFrom (challengesOf challenges) zeroX (firstRows l)
   unfolding extendAll lookupSum
-  last-sum f e h =
-      let padded = paddedTable l table (listHeight l) in
-      let answer = fill-answer l table f in
-      let rows : rowCount padded ≡ rowCount table = padded-rows (fill-done l table (listHeight l) answer) in
-      let after : AfterFill l table (listHeight l) = after-fill l table (listHeight l) answer in
+  last-sum f e some =
+      let padded = paddedTable h table (listHeight l) in
+      let answer = fill-answer h table f in
+      let rows : rowCount padded ≡ rowCount table = padded-rows (fill-done h table (listHeight l) answer) in
+      let after : AfterFill h table (listHeight l) = after-fill h table (listHeight l) answer in
       let s = summandAt padded challenges in
       let all : suc (rowCount table - 1) ≡ rowCount padded = omega arith in
       ap (λ (o : Outcome (List ℕ)). auxAt (o .left) (rowCount table - 1)) (outcome-fine _ _ _ (after .extend-refuses aux challenges ∙ e))

@@ -1,7 +1,7 @@
 -- The client's sum is the table's (change request 2): "For every list of accepted recordings from a fresh list, if no denominator lacks an inverse, the
 -- client's sum over the recordings equals the last running sum that demand 3's fill, pad and extend then make under the same challenges, none
--- refusing." Both statements below are proved for every list, table, aux and challenges (proofs/ClientLaw.antt). Their conditions speak of the
--- recordings, of lengths and of the challenges: that no call refuses, and that the client's does not, is a conclusion.
+-- refusing." The three statements below are proved for every list with its holds, table, aux and challenges (proofs/ClientLaw.antt). Their conditions
+-- speak of the recordings, of lengths and of the challenges: that no call refuses, and that the client's does not, is a conclusion.
 use Prim.Native.Nat.{ℕ, _-_, _≤_, _<_}
 use mathlib.Core.Path.{_≡_}
 use mathlib.Core.Logic.{_≢_}
@@ -12,21 +12,18 @@ use Rattle.words.specs.declared.Judgement.the-variants.{Fine}
 use Rattle.xfield.specs.Extension.{zeroX}
 use Rattle.isa.specs.declared.U32TableEntry.{U32TableEntry}
 use Rattle.isa.specs.Entries.{entryWords, admitted}
-use Rattle.list.specs.Lists.{U32List, used, listShape}
+use Rattle.list.specs.Lists.{U32List, used, entryAt}
 use Rattle.list.specs.Heights.{listHeight}
+use Rattle.list.specs.Holds.{HeldList, openHold, sectionList}
 use Rattle.list_record.specs.Recording.{recordEach}
 use Rattle.list_replay.specs.Replay.{replayAll, traceEntries}
+use Rattle.list_laws.specs.Calls.{Call, after, counted, Fresh}
 use Rattle.table.specs.Columns.{rowCount, auxAt, tableShape, auxShape, allReduced}
 use Rattle.table.specs.Challenges.{Challenges, challengesOf, challengesShape}
 use Rattle.sums.specs.RunningSum.{elementWords}
 use Rattle.air.specs.Check.{zeroAnswer, checkAll}
 use Rattle.four_calls.specs.FourCalls.{paddedTable, extendedAux, NoneRefuses}
 use Rattle.client_sum.specs.Client.{entryDenominator, clientSum, clientAll}
-
--- "a fresh list": of the right shape, and no place is used, whatever words the places hold
-pub record Fresh (l : U32List) : Type 0 where
-  pub shape : listShape l ≡ Fine
-  pub unused : used l ≡ 0
 
 -- "if no denominator lacks an inverse": none is (0, 0, 0), the only element without one. A recording's is that of the entry that admission hands back
 abbrev pub NoZeroDenominator : Challenges → List U32TableEntry → Type 0
@@ -45,28 +42,42 @@ pub record RightlyLent (height : ℕ) (table aux challenges : List ℕ) : Type 0
 abbrev pub requestWords : List U32TableEntry → List ℕ
 requestWords es = flatMap entryWords es
 
--- The two sums agree: l is the list after the recordings es
-pub record SumsAgree (l : U32List) (es : List U32TableEntry) (table aux challenges : List ℕ) : Type 0 where
+-- The two sums agree: h is the list after the recordings es
+pub record SumsAgree (h : HeldList) (es : List U32TableEntry) (table aux challenges : List ℕ) : Type 0 where
   -- the client's call answers its sum
   pub client : clientAll (requestWords es) challenges ≡ done (elementWords (clientSum (requestWords es) challenges))
   -- "none refusing": fill answers the height, pad answers done, extend answers the same sum
-  pub server : NoneRefuses l table aux challenges (listHeight l) (elementWords (clientSum (requestWords es) challenges))
+  pub server : NoneRefuses h table aux challenges (listHeight (sectionList h)) (elementWords (clientSum (requestWords es) challenges))
   -- where there is a row: the sum stands in the last one, and the check answers zero
   pub last : 0 < rowCount table
-      → auxAt (extendedAux l table (listHeight l) aux challenges) (rowCount table - 1) ≡ clientSum (requestWords es) challenges
+      → auxAt (extendedAux h table (listHeight (sectionList h)) aux challenges) (rowCount table - 1) ≡ clientSum (requestWords es) challenges
   pub zero : 0 < rowCount table
-      → checkAll (paddedTable l table (listHeight l)) (extendedAux l table (listHeight l) aux challenges) challenges ≡ zeroAnswer
+      → checkAll (paddedTable h table (listHeight (sectionList h))) (extendedAux h table (listHeight (sectionList h)) aux challenges) challenges
+      ≡ zeroAnswer
 
 -- THE LAW, for recordings one after the other, all accepted
-abbrev pub ClientIsServer : U32List → List U32TableEntry → (table aux challenges : List ℕ) → Type 0
-ClientIsServer l es table aux challenges =
-    Fresh l → recordEach l es .answer .number ≡ 0 → NoZeroDenominator (challengesOf challenges) es
-    → RightlyLent (listHeight (recordEach l es .left)) table aux challenges
-    → SumsAgree (recordEach l es .left) es table aux challenges
+abbrev pub ClientIsServer : HeldList → List U32TableEntry → (table aux challenges : List ℕ) → Type 0
+ClientIsServer h es table aux challenges =
+    Fresh h → recordEach h es .answer .number ≡ 0 → NoZeroDenominator (challengesOf challenges) es
+    → RightlyLent (listHeight (sectionList (recordEach h es .left))) table aux challenges
+    → SumsAgree (recordEach h es .left) es table aux challenges
 
 -- and for an accepted replay, over what its steps record
-abbrev pub ReplayIsServer : U32List → (trace table aux challenges : List ℕ) → Type 0
-ReplayIsServer l trace table aux challenges =
-    Fresh l → replayAll l trace .answer .number ≡ 0 → NoZeroDenominator (challengesOf challenges) (traceEntries trace)
-    → RightlyLent (listHeight (replayAll l trace .left)) table aux challenges
-    → SumsAgree (replayAll l trace .left) (traceEntries trace) table aux challenges
+abbrev pub ReplayIsServer : HeldList → (trace table aux challenges : List ℕ) → Type 0
+ReplayIsServer h trace table aux challenges =
+    Fresh h → replayAll h trace .answer .number ≡ 0 → NoZeroDenominator (challengesOf challenges) (traceEntries trace)
+    → RightlyLent (listHeight (sectionList (replayAll h trace .left))) table aux challenges
+    → SumsAgree (replayAll h trace .left) (traceEntries trace) table aux challenges
+
+-- No denominator of a key that gets a section is zero. A key whose holds were all dropped gets one too, though nothing of it is counted
+-- (DroppedKeys.antt)
+abbrev pub NoZeroSection : Challenges → U32List → Type 0
+NoZeroSection c l = (i : ℕ) → i < used l → entryDenominator c (entryAt l i) ≢ zeroX
+
+-- and where recordings are "made in two parts" (request 6), among holds, drops, replays and refused calls: over what the calls count, if no hold is
+-- open after them
+abbrev pub CallsAreServer : HeldList → List Call → (table aux challenges : List ℕ) → Type 0
+CallsAreServer h cs table aux challenges =
+    Fresh h → openHold (after h cs) ≡ Fine → NoZeroSection (challengesOf challenges) (sectionList (after h cs))
+    → RightlyLent (listHeight (sectionList (after h cs))) table aux challenges
+    → SumsAgree (after h cs) (counted h cs) table aux challenges

@@ -1,1 +1,2 @@
 pub mod ClientLaw
+pub mod DroppedKeys

@@ -11,19 +11,19 @@ use Rattle.words.specs.declared.Refusal.the-variants.{Shape, Short}
 use Rattle.words.specs.declared.Judgement.the-variants.{Fine, Declined}
 use Rattle.words.proofs.Judgements.{decline-true, decline-false, decline-not-true, or-first, or-next}
 use Rattle.words.proofs.Outcomes.{leaves-done, leaves-declined}
-use Rattle.list.specs.Lists.{U32List, judgeList}
 use Rattle.list.specs.Heights.{listHeight}
+use Rattle.list.specs.Holds.{HeldList, sectionList, judgeHeld}
 use Rattle.table.specs.Columns.{rowCount, tableShape}
 use Rattle.fill.specs.Filling.{filled, fillReason, fillAll, filledAnswer}
 use Rattle.fill.specs.declared.Filled.{Filled}
 use Rattle.fill.specs.declared.Filled.the-variants.{Rows}
 
-module _ (l : U32List) (table : List ℕ) where
+module _ (held : HeldList) (table : List ℕ) where
   -- the table as it was, and the reason
   abbrev Declines : Refusal → Type 0
-  Declines reason = Leaves (fillAll l table) (declined reason) table
+  Declines reason = Leaves (fillAll held table) (declined reason) table
 
-  refused : {reason : Refusal} → fillReason l table ≡ Declined reason → Declines reason
+  refused : {reason : Refusal} → fillReason held table ≡ Declined reason → Declines reason
   unfolding fillAll
   refused e = leaves-declined _ _ _ e
 
@@ -32,21 +32,21 @@ module _ (l : U32List) (table : List ℕ) where
   fill-shape e = refused (or-first _ (decline-true Shape (ap not e)))
 
   module _ (shape : tableShape table ≡ true) where
-    pub fill-list : {reason : Refusal} → judgeList l ≡ Declined reason → Declines reason
+    pub fill-list : {reason : Refusal} → judgeHeld held ≡ Declined reason → Declines reason
     unfolding fillReason
     fill-list e = refused (or-next _ (decline-not-true Shape shape) ∙ or-first _ e)
 
-    module _ (fine : judgeList l ≡ Fine) where
-      pub fill-short : rowCount table < listHeight l → Declines Short
+    module _ (fine : judgeHeld held ≡ Fine) where
+      pub fill-short : rowCount table < listHeight (sectionList held) → Declines Short
       unfolding fillReason
       fill-short h = refused (or-next _ (decline-not-true Shape shape) ∙ or-next _ fine ∙ decline-true Short (lt-ltb _ _ h))
 
       -- the definition's answer and table where nothing is declined
-      pub fill-fine : listHeight l ≤ rowCount table → fillReason l table ≡ Fine
+      pub fill-fine : listHeight (sectionList held) ≤ rowCount table → fillReason held table ≡ Fine
       unfolding fillReason
       fill-fine h = or-next _ (decline-not-true Shape shape) ∙ or-next _ fine ∙ decline-false Short (le-ltb _ _ h)
 
-      pub fill-done : {r : Filled} {after : List ℕ} → listHeight l ≤ rowCount table → r ≡ Rows (listHeight l) → after ≡ filled l table
-          → Leaves (fillAll l table) (filledAnswer r) after
+      pub fill-done : {r : Filled} {after : List ℕ} → listHeight (sectionList held) ≤ rowCount table → r ≡ Rows (listHeight (sectionList held)) → after ≡ filled (sectionList held) table
+          → Leaves (fillAll held table) (filledAnswer r) after
       unfolding fillAll
-      fill-done h e f = leaves-done (listHeight l ∷ []) table (filled l table) (fill-fine h) (ap filledAnswer e) f
+      fill-done h e f = leaves-done (listHeight (sectionList held) ∷ []) table (filled (sectionList held) table) (fill-fine h) (ap filledAnswer e) f

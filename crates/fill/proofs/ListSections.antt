@@ -1,21 +1,21 @@
--- The sections of a list, joined. A place more adds its section's rows (`rows-more`, `rows-same`). Where the list is judged fine, every place
--- that gets a section has one (`section-at`), so there are as many rows as the height says (`rows-height`). Assumes nothing.
+-- The sections of a list, joined. A place more adds its section's rows (`rows-more`). Where the list is judged fine, every used place has a
+-- section (`section-at`), so there are as many rows as the height says (`rows-height`). Assumes nothing.
 use Prim.Native.Nat.{ℕ, zero, suc, _+_, _*_, _≤_, _<_}
 use mathlib.Core.Path.{_≡_, refl, sym, ap, _∙_}
-use mathlib.Core.Bool.{Bool, true, false}
 use mathlib.Core.List.{List, [], _∷_, _++_, append-nil, append-assoc}
 use native.Mathlib.Nat.{le-refl}
 use native.Mathlib.Numerals.{add-one}
 use native.Mathlib.Omega.{arith}
 use lib.ListN.{length, length-append}
 use lib.Seq.{sets}
+use Rattle.words.specs.Places.{placesFrom, places}
 use Rattle.words.specs.declared.Judgement.the-variants.{Fine}
+use Rattle.words.proofs.Places.{places-more}
 use Rattle.words.proofs.Sets.{sets-then}
 use Rattle.isa.specs.Entries.{height}
 use Rattle.list.specs.Lists.{U32List, used, entryAt, multiplicityAt, judgeList}
-use Rattle.list.specs.Heights.{getsSection, sectionPlacesTo, listHeight}
-use Rattle.list.proofs.JudgedLists.{entry-admissible, every-place, places-more, places-same}
-use Rattle.list.proofs.JudgedLists.{heightTo, height-more, height-same, height-none, height-to-mono, list-height}
+use Rattle.list.specs.Heights.{listHeight}
+use Rattle.list.proofs.JudgedLists.{entry-admissible, heightTo, height-more, height-none, height-to-mono, list-height}
 use Rattle.table.specs.Columns.{Row, mainWidth}
 use Rattle.table.specs.RowWords.{rowWords, tableWords}
 use Rattle.fill_sections.specs.Sections.{firstPending, Section, rows, noSection, section, rowsOf, sectionWords}
@@ -54,23 +54,19 @@ rows-append l (i ∷ is) js =
 -- ---- among the first n places
 
 unfoldable pub rowsTo : U32List → ℕ → List Row
-rowsTo l n = sectionsAt l (sectionPlacesTo l n)
+rowsTo l n = sectionsAt l (places n)
 
 module _ (l : U32List) where
   pub rows-none : rowsTo l 0 ≡ []
-  unfolding rowsTo sectionsAt sectionPlacesTo
+  unfolding rowsTo sectionsAt placesFrom
   rows-none = refl
 
-  pub rows-more : (n : ℕ) → getsSection l n ≡ true → rowsTo l (suc n) ≡ rowsTo l n ++ rowsOf (sectionAt l n)
+  pub rows-more : (n : ℕ) → rowsTo l (suc n) ≡ rowsTo l n ++ rowsOf (sectionAt l n)
   unfolding rowsTo sectionsAt
-  rows-more n s =
-      ap (sectionsAt l) (places-more l n s)
-      ∙ rows-append l (sectionPlacesTo l n) (n ∷ [])
-      ∙ ap (λ (rs : List Row). sectionsAt l (sectionPlacesTo l n) ++ rs) (append-nil (rowsOf (sectionAt l n)))
-
-  pub rows-same : (n : ℕ) → getsSection l n ≡ false → rowsTo l (suc n) ≡ rowsTo l n
-  unfolding rowsTo
-  rows-same n s = ap (sectionsAt l) (places-same l n s)
+  rows-more n =
+      ap (sectionsAt l) (sym (places-more n))
+      ∙ rows-append l (places n) (n ∷ [])
+      ∙ ap (λ (rs : List Row). sectionsAt l (places n) ++ rs) (append-nil (rowsOf (sectionAt l n)))
 
 -- ---- a list that is judged fine
 
@@ -84,11 +80,9 @@ module _ (l : U32List) (fine : judgeList l ≡ Fine) where
 
   pub rows-height-to : (n : ℕ) → n ≤ used l → length (rowsTo l n) ≡ heightTo l n
   rows-height-to zero h = rw (rows-none l, height-none l)
-  rows-height-to (suc n) h = go (getsSection l n) refl (rows-height-to n (omega arith)) where
-    go : (t : Bool) → getsSection l n ≡ t → length (rowsTo l n) ≡ heightTo l n → length (rowsTo l (suc n)) ≡ heightTo l (suc n)
-    go true s e =
-        rw (rows-more l n s, height-more l n s) (simp length-append (omega (arith, e, section-height-at n (omega arith))))
-    go false s e = rw (rows-same l n s, height-same l n s) e
+  rows-height-to (suc n) h =
+      let e = rows-height-to n (omega arith) in
+      rw (rows-more l n, height-more l n) (simp length-append (omega (arith, e, section-height-at n (omega arith))))
 
   -- as many rows as the height says
   pub rows-height : length (sections l) ≡ listHeight l
@@ -97,7 +91,7 @@ module _ (l : U32List) (fine : judgeList l ≡ Fine) where
 
   -- the rows before a place and those of its section are among those of the list
   pub room-at : (i : ℕ) → i < used l → heightTo l i + height (entryAt l i) ≤ listHeight l
-  room-at i h = omega (arith, height-more l i (every-place l i), height-to-mono l (suc i) (used l) h, list-height l)
+  room-at i h = omega (arith, height-more l i, height-to-mono l (suc i) (used l) h, list-height l)
 
   -- the words of the first n places, and those of one more
   pub words-turn : (n row : ℕ) (before between after : List ℕ) → n < used l → row ≡ heightTo l n
@@ -107,5 +101,5 @@ module _ (l : U32List) (fine : judgeList l ≡ Fine) where
   words-turn n row before between after h r e f =
       let at : mainWidth * row ≡ 0 + length (tableWords (rowsTo l n)) =
       omega (arith, words-length (rowsTo l n), rows-height-to n (omega arith)) in
-      rw (add-one n, rows-more l n (every-place l n), words-append (rowsTo l n) (rowsOf (sectionAt l n)), ← section-words (sectionAt l n))
+      rw (add-one n, rows-more l n, words-append (rowsTo l n) (rowsOf (sectionAt l n)), ← section-words (sectionAt l n))
       (f ∙ sym (sets-then (tableWords (rowsTo l n)) (sectionWords (sectionAt l n)) before between 0 (mainWidth * row) e at))

@@ -9,8 +9,9 @@ use Rattle.words.specs.Outcomes.{Outcome, outcome}
 use Rattle.words.specs.Refusals.{declineIf, orElse}
 use Rattle.words.specs.declared.Judgement.{Judgement}
 use Rattle.words.specs.declared.Refusal.the-variants.{Shape, Short}
-use Rattle.list.specs.Lists.{U32List, entryAt, multiplicityAt, judgeList}
+use Rattle.list.specs.Lists.{U32List, entryAt, multiplicityAt}
 use Rattle.list.specs.Heights.{sectionPlaces, listHeight}
+use Rattle.list.specs.Holds.{HeldList, sectionList, judgeHeld}
 use Rattle.table.specs.Columns.{Row, rowCount, tableShape}
 use Rattle.table.specs.RowWords.{tableWords}
 use Rattle.fill_sections.specs.Sections.{section, rowsOf}
@@ -26,19 +27,19 @@ sectionsAt l (i ∷ is) = rowsOf (section (entryAt l i) (multiplicityAt l i)) ++
 abbrev pub sections : U32List → List Row
 sections l = sectionsAt l (sectionPlaces l)
 
--- "Fill .. 1, then 2 to 5 entry by entry, then (fill) 7": 1 also for the table, 7 is "table below the height"
-unfoldable pub fillReason : U32List → List ℕ → Judgement
-fillReason l table =
+-- "Fill .. 1, then 2 to 5 entry by entry, then (fill) 7": 1 also for the table, 7 is "table below the height"; request 6 has 15 "directly after 1"
+unfoldable pub fillReason : HeldList → List ℕ → Judgement
+fillReason h table =
     orElse (declineIf (not (tableShape table)) Shape)
-    (orElse (judgeList l) (declineIf (ltb (rowCount table) (listHeight l)) Short))
+    (orElse (judgeHeld h) (declineIf (ltb (rowCount table) (listHeight (sectionList h))) Short))
 
 -- "Rows past the height keep their words"
 abbrev pub filled : U32List → List ℕ → List ℕ
 filled l table = sets table 0 (tableWords (sections l))
 
 -- ".. the answer is the height."
-unfoldable pub fillAll : U32List → List ℕ → Outcome (List ℕ)
-fillAll l table = outcome (fillReason l table) (listHeight l ∷ []) table (filled l table)
+unfoldable pub fillAll : HeldList → List ℕ → Outcome (List ℕ)
+fillAll h table = outcome (fillReason h table) (listHeight (sectionList h) ∷ []) table (filled (sectionList h) table)
 
 -- what the answer of `fill` means
 abbrev pub filledAnswer : Filled → Answer

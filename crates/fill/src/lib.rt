@@ -6,6 +6,7 @@ ghost use Rattle.words.specs.Outcomes.{Leaves, completedAnswer};
 ghost use Rattle.words.specs.declared.Judgement.the-variants.{Fine};
 ghost use Rattle.list.specs.Lists.{u32List, judgeList};
 ghost use Rattle.list.specs.Heights.{listHeight};
+ghost use Rattle.list.specs.Holds.{heldList};
 ghost use Rattle.table.specs.Columns.{mainWidth};
 ghost use Rattle.table.specs.Layouts.{rowOf};
 ghost use Rattle.fill.specs.Filling.{filled, fillAll, filledAnswer};
@@ -60,14 +61,21 @@ fn fill_sections(sizes: Sizes, keys: &[u64], multiplicities: &[u64], table: &mut
 }
 
 // Fills the sections of the list's entries, in list order, from row 0 on. The answer is the height; later rows keep their words. It refuses
-// a table or list of the wrong shape, an entry that is not admitted or counted too often, and a table with fewer rows than the height.
-pub fn fill(sizes: Sizes, keys: &[u64], multiplicities: &[u64], table: &mut [u64]) -> Filled
-    ensures { λ r. ⌜ Leaves (fillAll (u32List sizes (now (keys .entry)) (now (multiplicities .entry))) (now (table .entry))) (filledAnswer r) (now (table .exit)) ⌝ }
+// a table or list of the wrong shape, a hold that is open, an entry that is not admitted or counted too often, and a table with fewer rows than the
+// height.
+pub fn fill(
+    sizes: Sizes,
+    keys: &[u64],
+    multiplicities: &[u64],
+    holds: &[u64],
+    table: &mut [u64],
+) -> Filled
+    ensures { λ r. ⌜ Leaves (fillAll (heldList sizes (now (keys .entry)) (now (multiplicities .entry)) (now (holds .entry))) (now (table .entry))) (filledAnswer r) (now (table .exit)) ⌝ }
 {
     if !MainRow::has_shape(table) {
         return Filled::Refused(Refusal::Shape);
     }
-    match list::judge_list(sizes, keys, multiplicities) {
+    match list::judge_held(sizes, keys, multiplicities, holds) {
         Judged::Refused(reason) => Filled::Refused(reason),
         Judged::Height(height) => {
             if ((table.len() / MainRow::WIDTH) as u64) < height {

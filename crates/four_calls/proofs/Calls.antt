@@ -3,7 +3,7 @@
 -- (`pad-done`), and makes the table the words of the sections and of padding (`padded-is`).
 use Prim.Native.Nat.{ℕ, zero, suc, _+_, _-_, _*_, _/_, _%_, _≤_, _<_}
 use mathlib.Core.Path.{_≡_, refl, sym, ap, ap₂, _∙_, subst}
-use mathlib.Core.Bool.{Bool, true, false, cond, not, _&&_}
+use mathlib.Core.Bool.{true, not, _&&_}
 use mathlib.Core.List.{List, [], _∷_, _++_, append-nil}
 use native.Mathlib.Omega.{arith}
 use lib.Dec.{eqb, ltb}
@@ -11,6 +11,7 @@ use lib.ListN.{length, getD, drop, replicate, length-append, length-replicate, L
 use lib.Seq.{sets, length-sets}
 use borrow.Author.Tests.{ltb-false, le-ltb}
 use Rattle.words.specs.Limits.{maxRows}
+use Rattle.words.specs.Places.{placesFrom}
 use Rattle.words.specs.Answers.{Answer, done}
 use Rattle.words.proofs.Answers.{declined-not-done}
 use Rattle.words.specs.Refusals.{declineIf}
@@ -22,8 +23,10 @@ use Rattle.words.specs.Outcomes.{Outcome}
 use Rattle.words.proofs.Outcomes.{outcome-fine, done-fine}
 use Rattle.words.proofs.Sets.{sets-append, sets-front}
 use Rattle.list.specs.Lists.{U32List, used, judgeList}
-use Rattle.list.specs.Heights.{getsSection, sectionPlacesTo, sectionPlaces, listHeight}
+use Rattle.list.specs.Heights.{sectionPlaces, listHeight}
+use Rattle.list.specs.Holds.{HeldList, sectionList, judgeHeld}
 use Rattle.list.proofs.JudgedLists.{list-admitted, entry-admissible}
+use Rattle.list.proofs.HeldLists.{held-judged}
 use Rattle.table.specs.Columns.{Row, mainWidth, rowAt, rowCount, tableShape, allReduced}
 use Rattle.table.proofs.Rows.{TableShape, table-shape}
 use Rattle.table.specs.RowWords.{rowWords, tableWords}
@@ -36,59 +39,57 @@ use Rattle.four_calls.proofs.RowLists.{Each, each-at, lastOf, last-at, 
 use Rattle.four_calls.proofs.Tables.{EachPlace, PlaceOk, HonestSections, honest-sections, front, front-end, paddedRows}
 
 -- ---- a list that is judged fine
-places-below : (P : ℕ → Type 0) (l : U32List) (n : ℕ) → ((i : ℕ) → i < n → P i) → EachPlace P (sectionPlacesTo l n)
-unfolding sectionPlacesTo
-places-below P l zero h = tt
-places-below P l (suc n) h = go (places-below P l n (λ i k. h i (omega arith))) (getsSection l n)
-  where
-    join : (is js : List ℕ) → EachPlace P is → EachPlace P js → EachPlace P (is ++ js)
-    join [] js a b = b
-    join (i ∷ is) js a b = (a .0, join is js (a .1) b)
-
-    go : EachPlace P (sectionPlacesTo l n) → (t : Bool) → EachPlace P (sectionPlacesTo l n ++ cond t (n ∷ []) [])
-    go rest true = join (sectionPlacesTo l n) (n ∷ []) rest (h n (omega arith), tt)
-    go rest false = join (sectionPlacesTo l n) [] rest tt
+places-each : (P : ℕ → Type 0) (i n : ℕ) → ((j : ℕ) → j < i + n → P j) → EachPlace P (placesFrom i n)
+unfolding placesFrom
+places-each P i zero h = tt
+places-each P i (suc n) h = (h i (omega arith), places-each P (suc i) n (λ j k. h j (omega arith)))
 
 list-places : (l : U32List) → judgeList l ≡ Fine → EachPlace (PlaceOk l) (sectionPlaces l)
 list-places l fine =
     let h = list-admitted l fine in
-    places-below (PlaceOk l) l (used l)
-    (λ i k. record { admissible = entry-admissible l fine i k; multiplicity-limit = let m = h .multiplicity i k in omega arith })
+    places-each (PlaceOk l) 0 (used l)
+    (λ i k.
+    let b : i < used l = omega arith in
+    record { admissible = entry-admissible l fine i b; multiplicity-limit = let m = h .multiplicity i b in omega arith })
 
 -- ---- fill
-pub record Filled (l : U32List) (table : List ℕ) (height : ℕ) : Type 0 where
-  pub sections : HonestSections l (sectionPlaces l)
+pub record Filled (held : HeldList) (table : List ℕ) (height : ℕ) : Type 0 where
+  pub sections : HonestSections (sectionList held) (sectionPlaces (sectionList held))
   pub shape-true : tableShape table ≡ true
   pub shape : TableShape table
-  pub height-is : height ≡ listHeight l
+  pub height-is : height ≡ listHeight (sectionList held)
   pub room : height ≤ rowCount table
-  pub filled-is : filledTable l table ≡ sets table 0 (tableWords (sections .all-rows))
+  pub filled-is : filledTable held table ≡ sets table 0 (tableWords (sections .all-rows))
 
 -- the reasons of fill
-record FillFine (l : U32List) (table : List ℕ) : Type 0 where
+record FillFine (held : HeldList) (table : List ℕ) : Type 0 where
   pub shape-true : tableShape table ≡ true
-  pub judged : judgeList l ≡ Fine
-  pub room : listHeight l ≤ rowCount table
+  pub judged : judgeList (sectionList held) ≡ Fine
+  pub room : listHeight (sectionList held) ≤ rowCount table
 
-fill-fine : (l : U32List) (table : List ℕ) → fillReason l table ≡ Fine → FillFine l table
+fill-fine : (held : HeldList) (table : List ℕ) → fillReason held table ≡ Fine → FillFine held table
 unfolding fillReason
-fill-fine l table h =
+fill-fine held table h =
+    let height = listHeight (sectionList held) in
     let a = or-both (declineIf (not (tableShape table)) Shape) _ h in
-    let b = or-both (judgeList l) _ (a .1) in
+    let b = or-both (judgeHeld held) _ (a .1) in
     record {
       shape-true = decline-not-fine (tableShape table) Shape (a .0);
-      judged = b .0;
-      room = ltb-false (rowCount table) (listHeight l) (decline-fine (ltb (rowCount table) (listHeight l)) Short (b .1));
+      judged = held-judged held (b .0);
+      room = ltb-false (rowCount table) height (decline-fine (ltb (rowCount table) height) Short (b .1));
     }
 
-module _ (l : U32List) (table : List ℕ) (fine : fillReason l table ≡ Fine) where
-  sections-honest : HonestSections l (sectionPlaces l)
-  sections-honest = honest-sections l (sectionPlaces l) (list-places l (fill-fine l table fine .judged))
+module _ (held : HeldList) (table : List ℕ) (fine : fillReason held table ≡ Fine) where
+  abbrev l : U32List
+  l = sectionList held
 
-  pub fill-filled : Filled l table (listHeight l)
+  sections-honest : HonestSections l (sectionPlaces l)
+  sections-honest = honest-sections l (sectionPlaces l) (list-places l (fill-fine held table fine .judged))
+
+  pub fill-filled : Filled held table (listHeight l)
   unfolding fillAll
   fill-filled =
-      let f = fill-fine l table fine in
+      let f = fill-fine held table fine in
       record {
         sections = sections-honest;
         shape-true = f .shape-true;
@@ -101,20 +102,22 @@ module _ (l : U32List) (table : List ℕ) (fine : fillReason l table ≡ Fine) w
       }
 
   -- fill answers the height
-  pub fill-answer : fillAll l table .answer ≡ done (listHeight l ∷ [])
+  pub fill-answer : fillAll held table .answer ≡ done (listHeight l ∷ [])
   unfolding fillAll
   fill-answer = ap (λ (due : Outcome (List ℕ)). due .answer) (outcome-fine (listHeight l ∷ []) table (filled l table) fine)
 
 -- an answer other than a reason comes from no reason
-fill-reason : (l : U32List) (table : List ℕ) {values : List ℕ} → fillAll l table .answer ≡ done values → fillReason l table ≡ Fine
+fill-reason : (held : HeldList) (table : List ℕ) {values : List ℕ} → fillAll held table .answer ≡ done values → fillReason held table ≡ Fine
 unfolding fillAll
-fill-reason l table h = done-fine (fillReason l table) (listHeight l ∷ []) table (filled l table) h .0
+fill-reason held table h =
+    let l = sectionList held in
+    done-fine (fillReason held table) (listHeight l ∷ []) table (filled l table) h .0
 
-pub fill-done : (l : U32List) (table : List ℕ) (height : ℕ) → fillAll l table .answer ≡ done (height ∷ []) → Filled l table height
-fill-done l table height h =
-    let fine = fill-reason l table h in
-    let same : listHeight l ≡ height = ap (λ (a : Answer). getD (a .values) 0 0) (sym (fill-answer l table fine) ∙ h) in
-    subst (Filled l table) same (fill-filled l table fine)
+pub fill-done : (held : HeldList) (table : List ℕ) (height : ℕ) → fillAll held table .answer ≡ done (height ∷ []) → Filled held table height
+fill-done held table height h =
+    let fine = fill-reason held table h in
+    let same : listHeight (sectionList held) ≡ height = ap (λ (a : Answer). getD (a .values) 0 0) (sym (fill-answer held table fine) ∙ h) in
+    subst (Filled held table) same (fill-filled held table fine)
 
 -- ---- pad
 -- the shape is told by the length
@@ -122,7 +125,7 @@ pub shape-by-length : (s t : List ℕ) → length s ≡ length t → tableShape 
 unfolding tableShape
 shape-by-length s t e = ap (λ (n : ℕ). eqb (n % mainWidth) 0 && not (ltb maxRows (n / mainWidth))) e
 
-module _ {l : U32List} {table : List ℕ} {height : ℕ} (f : Filled l table height) where
+module _ {held : HeldList} {table : List ℕ} {height : ℕ} (f : Filled held table height) where
   abbrev filledRows : List Row
   filledRows = f .sections .all-rows
 
@@ -130,14 +133,14 @@ module _ {l : U32List} {table : List ℕ} {height : ℕ} (f : Filled l table hei
   unfolding listHeight
   rows-are = f .sections .row-count ∙ sym (f .height-is)
 
-  filled-length : length (filledTable l table) ≡ length table
+  filled-length : length (filledTable held table) ≡ length table
   filled-length = ap length (f .filled-is) ∙ length-sets table 0 (tableWords filledRows)
 
   words-fit : length (tableWords filledRows) ≤ length table
   words-fit = omega (arith, words-length filledRows, rows-are, f .room, f .shape .whole)
 
   -- the first rows of the filled table
-  filled-row : (i : ℕ) → i < height → rowAt (filledTable l table) i ≡ getD filledRows i front
+  filled-row : (i : ℕ) → i < height → rowAt (filledTable held table) i ≡ getD filledRows i front
   unfolding rowAt
   filled-row i k =
       ap (λ (ws : List ℕ). rowAt ws i) (f .filled-is ∙ sets-front (tableWords filledRows) table words-fit)
@@ -176,11 +179,11 @@ module _ {l : U32List} {table : List ℕ} {height : ℕ} (f : Filled l table hei
   filled-honest : Each HonestRow filledRows
   filled-honest = f .sections .chain front front-end .each
 
-  last-filled : LastFilled (lastFilled (filledTable l table) height)
+  last-filled : LastFilled (lastFilled (filledTable held table) height)
   unfolding paddingRow allReduced
   last-filled = go height refl filledRows refl
     where
-      go : (n : ℕ) → height ≡ n → (rs : List Row) → filledRows ≡ rs → LastFilled (lastFilled (filledTable l table) n)
+      go : (n : ℕ) → height ≡ n → (rs : List Row) → filledRows ≡ rs → LastFilled (lastFilled (filledTable held table) n)
       go zero e [] k = record { words-below = refl; padding-is = ap (λ (xs : List Row). paddingRow (lastOf front xs)) (sym k) }
       go zero e (r ∷ rs) k = absurd (omega (arith, ap length k, rows-are))
       go (suc n) e rs k =
@@ -192,18 +195,18 @@ module _ {l : U32List} {table : List ℕ} {height : ℕ} (f : Filled l table hei
             padding-is = ap paddingRow (row-is ∙ last-at front front filledRows n (omega (arith, rows-are)));
           }
 
-  pad-reason : padReason (filledTable l table) height ≡ Fine
+  pad-reason : padReason (filledTable held table) height ≡ Fine
   unfolding padReason
   pad-reason =
       let count = filled-length in
-      or-next _ (decline-not-true Shape (shape-by-length (filledTable l table) table filled-length ∙ f .shape-true))
-      ∙ or-next _ (decline-false Short (le-ltb (rowCount (filledTable l table)) height (omega (arith, f .room))))
+      or-next _ (decline-not-true Shape (shape-by-length (filledTable held table) table filled-length ∙ f .shape-true))
+      ∙ or-next _ (decline-false Short (le-ltb (rowCount (filledTable held table)) height (omega (arith, f .room))))
       ∙ decline-not-true Unreduced (last-filled .words-below)
 
   -- pad refuses nothing that fill left and answered
-  pub pad-done : padAll (filledTable l table) height .answer ≡ done []
+  pub pad-done : padAll (filledTable held table) height .answer ≡ done []
   unfolding padAll
-  pad-done = ap (λ (due : Outcome (List ℕ)). due .answer) (outcome-fine [] (filledTable l table) (padded (filledTable l table) height) pad-reason)
+  pad-done = ap (λ (due : Outcome (List ℕ)). due .answer) (outcome-fine [] (filledTable held table) (padded (filledTable held table) height) pad-reason)
 
   abbrev pub finalRows : List Row
   finalRows = paddedRows filledRows (rowCount table - height)
@@ -214,11 +217,11 @@ module _ {l : U32List} {table : List ℕ} {height : ℕ} (f : Filled l table hei
       ∙ omega (arith, rows-are, f .room, length-replicate (rowCount table - height) (paddingRow (lastOf front filledRows)))
 
   -- the table after fill and pad: the words of the sections and of padding, and no others
-  pub padded-is : paddedTable l table height ≡ tableWords finalRows
+  pub padded-is : paddedTable held table height ≡ tableWords finalRows
   unfolding padAll
   padded-is =
-      ap (λ (due : Outcome (List ℕ)). due .left) (outcome-fine [] (filledTable l table) (padded (filledTable l table) height) pad-reason)
-      ∙ ap₂ (λ (n : ℕ) (row : Row). sets (filledTable l table) (mainWidth * height) (tableWords (replicate n row)))
+      ap (λ (due : Outcome (List ℕ)). due .left) (outcome-fine [] (filledTable held table) (padded (filledTable held table) height) pad-reason)
+      ∙ ap₂ (λ (n : ℕ) (row : Row). sets (filledTable held table) (mainWidth * height) (tableWords (replicate n row)))
       (ap (λ (n : ℕ). n / mainWidth - height) filled-length) (last-filled .padding-is)
       ∙ ap₂ (λ (ws : List ℕ) (at : ℕ). sets ws at B) (f .filled-is) (omega (arith, words-length filledRows, rows-are))
       ∙ sym (sets-append A B table 0)

@@ -1,6 +1,6 @@
 -- The twelve proved examples of document 01, by one theorem (`twelve-examples`). Heights and plain functions are computed; the
 -- Result of a section's first row is the plain function's, as for every admitted entry; the padding is that of the table after fill
--- and pad.
+-- and pad. And the section of a key with multiplicity 0, computed (`dropped-has-section`).
 use Prim.Native.Nat.{ℕ, _+_, _-_, _*_}
 use mathlib.Core.Path.{_≡_, refl, sym, ap, _∙_, subst}
 use mathlib.Core.List.{List, [], _∷_}
@@ -10,15 +10,17 @@ use lib.ListN.{length, getD, replicate}
 use Rattle.field.proofs.Powers.{powF-is}
 use Rattle.xfield.proofs.Laws.{x-cubed}
 use Rattle.words.specs.Answers.{done}
+use Rattle.words.specs.Places.{placesFrom}
 use Rattle.words.specs.Refusals.{firstReason}
 use Rattle.words.specs.declared.Judgement.the-variants.{Fine}
-use Rattle.isa.specs.Opcodes.{opLt, opLog2Floor, opPopCount, opPow, isOpcode}
+use Rattle.isa.specs.Opcodes.{opLt, opLog2Floor, opAnd, opPopCount, opPow, isOpcode}
 use Rattle.isa.specs.PlainFunctions.{plainLt, floorLog2, plainPow, oneBits, plainResult}
 use Rattle.isa.specs.declared.U32TableEntry.{U32TableEntry}
 use Rattle.isa.specs.Entries.{lhs, rhs, entry, judgeAsItIs, judgeEntry, admitted, dominant, heightOf, height}
 use Rattle.isa.proofs.Entries.{Admissible, fine-admissible}
-use Rattle.list.specs.Lists.{U32List, keyAt, multiplicityAt, entryAt, listShape, countFull, judgeEntryBy, judgePlaceBy, judgeList}
-use Rattle.list.specs.Heights.{getsSection, sectionPlacesTo, sectionPlaces, entriesAt, sumHeights, listHeight}
+use Rattle.list.specs.Lists.{keyAt, multiplicityAt, entryAt, listShape, countFull, judgeEntryBy, judgePlaceBy, judgeList}
+use Rattle.list.specs.Heights.{sectionPlaces, entriesAt, sumHeights, listHeight}
+use Rattle.list.specs.Holds.{HeldList, holdAt, heldShape, judgeHold, openHold, sectionList, judgeHeld}
 use Rattle.table.specs.Columns.{Row, mainWidth, rowAt, tableShape}
 use Rattle.fill_results.specs.declared.Choice.the-variants.{Value}
 use Rattle.fill_results.specs.Results.{isEnd, ending}
@@ -27,8 +29,8 @@ use Rattle.fill.specs.Filling.{sectionsAt}
 use Rattle.fill_sections.specs.Sections.{firstRow}
 use Rattle.fill.specs.Filling.{fillReason, fillAll}
 use Rattle.fill.specs.Padding.{paddingRow}
-use Rattle.four_calls.specs.FourCalls.{paddedTable}
-use Rattle.four_calls.specs.Examples.{oneEntry, HasResult, HasPadding, AllHold, examples}
+use Rattle.four_calls.specs.FourCalls.{firstRowsAt, paddedTable}
+use Rattle.four_calls.specs.Examples.{oneEntry, HasResult, HasPadding, AllHold, examples, DroppedHasSection}
 use Rattle.four_calls.proofs.RowLists.{row-of-words}
 use Rattle.four_calls.proofs.Sections.{honest-section}
 use Rattle.four_calls.proofs.Tables.{front, paddedRows}
@@ -44,8 +46,8 @@ has-result e fine same plain =
     record { plain = plain; first-row = ap topResult (honest-section e 1 a (lit< tt) .section-is) ∙ ap Value plain }
 
 -- ---- padding below the one row of lt 0, 0
-abbrev list : U32List
-list = oneEntry (entry opLt 0 0)
+abbrev list : HeldList
+list = oneEntry (entry opLt 0 0) 1
 
 abbrev table : List ℕ
 table = replicate 20 0
@@ -55,6 +57,12 @@ unfolding
     fillAll
     fillReason
     tableShape
+    judgeHeld
+    heldShape
+    openHold
+    judgeHold
+    holdAt
+    sectionList
     judgeList
     listShape
     firstReason
@@ -66,8 +74,7 @@ unfolding
     keyAt
     multiplicityAt
     countFull
-    sectionPlacesTo
-    getsSection
+    placesFrom
     entryAt
     admitted
     entriesAt
@@ -86,8 +93,8 @@ fills = refl
 abbrev onlyRow : Row
 onlyRow = sectionRow (firstPending (entry opLt 0 0) 1) 0
 
-one-row : sectionsAt list (sectionPlaces list) ≡ onlyRow ∷ []
-unfolding sectionPlacesTo getsSection sectionsAt entryAt admitted keyAt multiplicityAt section sectionFrom isEnd ending
+one-row : sectionsAt (sectionList list) (sectionPlaces (sectionList list)) ≡ onlyRow ∷ []
+unfolding sectionList placesFrom sectionsAt entryAt admitted keyAt multiplicityAt section sectionFrom isEnd ending
 one-row = refl
 
 row-below : (f : Filled list table 1) → rowAt (paddedTable list table 1) 1 .result ≡ 2
@@ -148,3 +155,39 @@ twelve-examples = (
     ),
   ),
 )
+
+-- ---- a key with multiplicity 0
+pub dropped-has-section : DroppedHasSection (entry opAnd 3 1) 3
+unfolding
+    fillAll
+    fillReason
+    tableShape
+    judgeHeld
+    heldShape
+    openHold
+    judgeHold
+    holdAt
+    sectionList
+    judgeList
+    listShape
+    firstReason
+    judgePlaceBy
+    judgeEntryBy
+    judgeEntry
+    judgeAsItIs
+    isOpcode
+    keyAt
+    multiplicityAt
+    countFull
+    placesFrom
+    entryAt
+    admitted
+    entriesAt
+    sumHeights
+    listHeight
+    height
+    heightOf
+    dominant
+    floorLog2
+    firstRowsAt
+dropped-has-section = record { fills = refl; first-row = refl }

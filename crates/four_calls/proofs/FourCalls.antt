@@ -1,7 +1,7 @@
--- THE CLAIM over the four calls (`four-calls`): for every list, and whatever table, aux and challenges hold, where the table has a row
--- or more and none of fill, pad and extend refuses, the check answers zero on what they leave, and the table's CopyFlag 1 rows are
--- the first rows of the list, in its order. Room for the height is no condition: fill would answer 7. And (`after-fill`) once fill has
--- answered a height, pad refuses nothing, and extend no more than what it is given besides the table.
+-- THE CLAIM over the four calls (`four-calls`): for every list with its holds, and whatever table, aux and challenges hold, where the table
+-- has a row or more and none of fill, pad and extend refuses, the check answers zero on what they leave, and the table's CopyFlag 1 rows
+-- are the first rows of the list, in its order. Room for the height is no condition, nor is it that no hold is open: fill would answer 7
+-- or 15. And (`after-fill`) once fill has answered a height, pad refuses nothing, and extend no more than what it is given besides the table.
 -- The table is the words of a list of honest rows in a chain; so its rows and pairs meet their constraints, the last row is an end row,
 -- and the aux words are running sums.
 use Prim.Native.Nat.{ℕ, zero, suc, _+_, _-_, _*_, _<_}
@@ -22,6 +22,7 @@ use Rattle.words.proofs.Outcomes.{outcome-fine, done-fine}
 use Rattle.words.proofs.Judgements.{or-next, decline-false, decline-not-true}
 use Rattle.list.specs.Lists.{U32List}
 use Rattle.list.specs.Heights.{sectionPlaces, listHeight}
+use Rattle.list.specs.Holds.{HeldList, sectionList}
 use Rattle.table.specs.Columns.{Row, mainWidth, rowAt, rowCount, auxWidth, auxAt, tableShape, auxShape, allReduced}
 use Rattle.table.specs.Challenges.{Challenges, challengesOf, challengesShape, rowDenominator}
 use Rattle.sums.specs.RunningSum.{Summand, addSummand, runningSum, denominatorsOk}
@@ -147,9 +148,12 @@ unfolding extendAll
 extended-is table aux challenges h = outcome-fine _ _ _ h
 
 -- ---- the claim
-module _ {l : U32List} {table : List ℕ} {height : ℕ} (f : Filled l table height) where
+module _ {held : HeldList} {table : List ℕ} {height : ℕ} (f : Filled held table height) where
+  abbrev l : U32List
+  l = sectionList held
+
   abbrev padded : List ℕ
-  padded = paddedTable l table height
+  padded = paddedTable held table height
 
   final-chain : Chain front (finalRows f)
   final-chain = padded-chain l (sectionPlaces l) (f .sections) (rowCount table - height)
@@ -181,7 +185,7 @@ module _ {l : U32List} {table : List ℕ} {height : ℕ} (f : Filled l table hei
   sum-is challenges = sum-of-rows padded challenges (rowCount padded) ∙ ap (sumFrom (challengesOf challenges) zeroX) padded-copyFlag1
 
   passes : (aux challenges : List ℕ) → 0 < rowCount table → extendReason padded aux challenges ≡ Fine
-      → checkAll padded (extendedAux l table height aux challenges) challenges ≡ done []
+      → checkAll padded (extendedAux held table height aux challenges) challenges ≡ done []
   passes aux challenges n h =
       let fine = extendable padded aux challenges h in
       ap (λ (a : List ℕ). checkAll padded a challenges) (ap (λ (due : Outcome (List ℕ)). due .left) (extended-is padded aux challenges h))
@@ -193,33 +197,35 @@ module _ {l : U32List} {table : List ℕ} {height : ℕ} (f : Filled l table hei
       check-zero (finalRows f) final-chain challenges ok shape (fine .shapes .challenges-right) (fine .challenges-reduced) (omega arith))
       padded-rows padded-shape (fine .denominators)
 
-pub four-calls : (l : U32List) (table aux challenges : List ℕ) (height : ℕ) (sum : List ℕ) → 0 < rowCount table
-    → NoneRefuses l table aux challenges height sum
-    → Honest l (paddedTable l table height) (extendedAux l table height aux challenges) challenges
-four-calls l table aux challenges height sum n calls =
-    let f = fill-done l table height (calls .fill) in
+pub four-calls : (held : HeldList) (table aux challenges : List ℕ) (height : ℕ) (sum : List ℕ) → 0 < rowCount table
+    → NoneRefuses held table aux challenges height sum
+    → Honest (sectionList held) (paddedTable held table height) (extendedAux held table height aux challenges) challenges
+four-calls held table aux challenges height sum n calls =
+    let f = fill-done held table height (calls .fill) in
     record {
       first-rows = padded-copyFlag1 f;
-      zero = passes f aux challenges n (extend-done (paddedTable l table height) aux challenges (calls .extend));
+      zero = passes f aux challenges n (extend-done (paddedTable held table height) aux challenges (calls .extend));
     }
 
 -- ---- what can still be refused once fill has answered a height
-pub after-fill : (l : U32List) (table : List ℕ) (height : ℕ) → fillAll l table .answer ≡ done (height ∷ []) → AfterFill l table height
-after-fill l table height h =
-    let f = fill-done l table height h in
+pub after-fill : (held : HeldList) (table : List ℕ) (height : ℕ) → fillAll held table .answer ≡ done (height ∷ []) → AfterFill held table height
+after-fill held table height h =
+    let f = fill-done held table height h in
     record { pad-done = pad-done f; extend-refuses = extend-refuses f; sum-is = sum-is f }
 
 -- so none refuses where fill does not, aux and challenges are right, and no first row's denominator is zero
-module _ (l : U32List) (table aux challenges : List ℕ) where
-  pub none-refuses : fillReason l table ≡ Fine → extendRefusals l table aux challenges ≡ Fine
-      → NoneRefuses l table aux challenges (listHeight l) (elementWords (sumFrom (challengesOf challenges) zeroX (firstRows l)))
+module _ (held : HeldList) (table aux challenges : List ℕ) where
+  pub none-refuses : fillReason held table ≡ Fine → extendRefusals (sectionList held) table aux challenges ≡ Fine
+      → NoneRefuses held table aux challenges (listHeight (sectionList held))
+      (elementWords (sumFrom (challengesOf challenges) zeroX (firstRows (sectionList held))))
   none-refuses fine h =
-      let a = after-fill l table (listHeight l) (fill-answer l table fine) in
+      let height = listHeight (sectionList held) in
+      let a = after-fill held table height (fill-answer held table fine) in
       record {
-        fill = fill-answer l table fine;
+        fill = fill-answer held table fine;
         pad = a .pad-done;
         extend =
             ap (λ (due : Outcome (List ℕ)). due .answer)
-            (extended-is (paddedTable l table (listHeight l)) aux challenges (a .extend-refuses aux challenges ∙ h))
+            (extended-is (paddedTable held table height) aux challenges (a .extend-refuses aux challenges ∙ h))
             ∙ ap (λ (x : Ext). done (elementWords x)) (a .sum-is challenges);
       }

@@ -13,6 +13,7 @@ use lib.Seq.{getD-append-seam}
 use borrow.Author.Tests.{eqb-true, ltb-true, ltb-false}
 use Rattle.list.specs.Lists.{U32List}
 use Rattle.list.specs.Heights.{sectionPlaces, entriesAt, sectionEntries}
+use Rattle.list.specs.Holds.{HeldList, sectionList}
 use Rattle.table.specs.Columns.{Row, rowAt, rowCount}
 use Rattle.air.proofs.Judging.{accepted}
 use Rattle.air.proofs.Claims.{zero-iff}
@@ -147,18 +148,19 @@ own-rows l table w =
     }
 
 -- ---- the bound is reached
-pub filled-is-shortest : (l : U32List) (table aux challenges : List ℕ) (height : ℕ) (sum : List ℕ)
-    → FilledIsShortest l table aux challenges height sum
-filled-is-shortest l table aux challenges height sum rows calls =
-    let made = four-calls l table aux challenges height sum (omega arith) calls in
-    let padded = paddedTable l table height in
+pub filled-is-shortest : (held : HeldList) (table aux challenges : List ℕ) (height : ℕ) (sum : List ℕ)
+    → FilledIsShortest held table aux challenges height sum
+filled-is-shortest held table aux challenges height sum rows calls =
+    let l = sectionList held in
+    let made = four-calls held table aux challenges height sum (omega arith) calls in
+    let padded = paddedTable held table height in
     let places : Places padded (rowCount padded) (firstRows l)
     = subst (Places padded (rowCount padded)) (made .first-rows) (flagged-places padded (rowCount padded)) in
-    let count : rowCount padded ≡ rowCount table = padded-rows (fill-done l table height (calls .fill)) in
+    let count : rowCount padded ≡ rowCount table = padded-rows (fill-done held table height (calls .fill)) in
     record {
       honest = record { zero = made .zero; own = places .place; own-rows = own-rows l padded places };
       none-shorter = λ other otherAux otherChallenges o.
           let some = accepted other otherAux otherChallenges (zero-iff other otherAux otherChallenges .0 (o .zero) .0) .some-row in
-          let bound = no-shorter-than-filled other otherAux otherChallenges (o .zero) l (o .own) (o .own-rows) table height (calls .fill) in
+          let bound = no-shorter-than-filled other otherAux otherChallenges (o .zero) held (o .own) (o .own-rows) table height (calls .fill) in
           omega arith;
     }

@@ -18,6 +18,7 @@ use Rattle.words.specs.declared.Judgement.the-variants.{Fine, Declined}
 use Rattle.words.proofs.Answers.{number-positive, declined-not-done}
 use Rattle.list.specs.Lists.{U32List}
 use Rattle.list.specs.Heights.{listHeight}
+use Rattle.list.specs.Holds.{HeldList, sectionList}
 use Rattle.table.specs.Columns.{rowCount}
 use Rattle.table.specs.Challenges.{challengesOf}
 use Rattle.air.specs.Check.{checkReason, firstNonzero, checkedAs, checkAll}
@@ -32,13 +33,13 @@ use Rattle.four_calls.proofs.Calls.{fill-done}
 use Rattle.four_calls.proofs.FourCalls.{padded-rows, four-calls, none-refuses}
 
 -- what `run` ensures
-abbrev pub Ensured : U32List → (table aux challenges : List ℕ) → Answer → (tableAfter auxAfter : List ℕ) → Type 0
-Ensured l table aux challenges answer tableAfter auxAfter =
-    Ran l table aux challenges answer tableAfter auxAfter
-    × (RunsHonestly l answer tableAfter × RefusesNoMore l table aux challenges answer)
+abbrev pub Ensured : HeldList → (table aux challenges : List ℕ) → Answer → (tableAfter auxAfter : List ℕ) → Type 0
+Ensured held table aux challenges answer tableAfter auxAfter =
+    Ran held table aux challenges answer tableAfter auxAfter
+    × (RunsHonestly held answer tableAfter × RefusesNoMore held table aux challenges answer)
 
-refused-no-claim : (l : U32List) (reason : Refusal) (table : List ℕ) → RunsHonestly l (declined reason) table
-refused-no-claim l reason table e = absurd (omega (arith, number-positive reason))
+refused-no-claim : (held : HeldList) (reason : Refusal) (table : List ℕ) → RunsHonestly held (declined reason) table
+refused-no-claim held reason table e = absurd (omega (arith, number-positive reason))
 
 -- a check that answers with the number 0 has found a row
 checked-rows : (table aux challenges : List ℕ) → checkAll table aux challenges .number ≡ 0 → 0 < rowCount table
@@ -61,56 +62,59 @@ goes-on left next values e =
     ap (λ (b : Bool). cond b next left) (eq-eqb (left .answer .number) 0 (sym (ap (λ (a : Answer). a .number) e)))
 
 -- ---- the four ways out
-module _ (l : U32List) (table aux challenges : List ℕ) where
-  abbrev none : fillReason l table ≡ Fine → extendRefusals l table aux challenges ≡ Fine
-      → NoneRefuses l table aux challenges (listHeight l) (elementWords (sumFrom (challengesOf challenges) zeroX (firstRows l)))
-  none = none-refuses l table aux challenges
+module _ (held : HeldList) (table aux challenges : List ℕ) where
+  abbrev l : U32List
+  l = sectionList held
 
-  pub fill-refused : (reason : Refusal) (after : List ℕ) → declined reason ≡ fillAll l table .answer → after ≡ fillAll l table .left
-      → Ensured l table aux challenges (declined reason) after aux
+  abbrev none : fillReason held table ≡ Fine → extendRefusals l table aux challenges ≡ Fine
+      → NoneRefuses held table aux challenges (listHeight l) (elementWords (sumFrom (challengesOf challenges) zeroX (firstRows l)))
+  none = none-refuses held table aux challenges
+
+  pub fill-refused : (reason : Refusal) (after : List ℕ) → declined reason ≡ fillAll held table .answer → after ≡ fillAll held table .left
+      → Ensured held table aux challenges (declined reason) after aux
   unfolding runAll
   fill-refused reason after a t = (
-    rw (stops (answered (fillAll l table .answer) (fillAll l table .left) aux) _ reason a)
+    rw (stops (answered (fillAll held table .answer) (fillAll held table .left) aux) _ reason a)
         (record { answer = a; left = ap (λ (w : List ℕ). record { table = w; aux = aux }) t }),
-    (refused-no-claim l reason after, λ fine _ h. absurd (declined-not-done reason (a ∙ none fine h .fill))),
+    (refused-no-claim held reason after, λ fine _ h. absurd (declined-not-done reason (a ∙ none fine h .fill))),
   )
 
-  module _ (height : ℕ) (filled : List ℕ) (fill-answer : done (height ∷ []) ≡ fillAll l table .answer) (fill-table : filled ≡ fillAll l table .left) where
-    height-is : fillReason l table ≡ Fine → extendRefusals l table aux challenges ≡ Fine → height ≡ listHeight l
+  module _ (height : ℕ) (filled : List ℕ) (fill-answer : done (height ∷ []) ≡ fillAll held table .answer) (fill-table : filled ≡ fillAll held table .left) where
+    height-is : fillReason held table ≡ Fine → extendRefusals l table aux challenges ≡ Fine → height ≡ listHeight l
     height-is fine h = ap (λ (a : Answer). getD (a .values) 0 0) (fill-answer ∙ none fine h .fill)
 
-    pads : fillReason l table ≡ Fine → extendRefusals l table aux challenges ≡ Fine → padAll filled height .answer ≡ done []
+    pads : fillReason held table ≡ Fine → extendRefusals l table aux challenges ≡ Fine → padAll filled height .answer ≡ done []
     pads fine h = rw (fill-table, height-is fine h) (none fine h .pad)
 
     pub pad-refused : (reason : Refusal) (after : List ℕ) → declined reason ≡ padAll filled height .answer → after ≡ padAll filled height .left
-        → Ensured l table aux challenges (declined reason) after aux
+        → Ensured held table aux challenges (declined reason) after aux
     unfolding runAll
     pad-refused reason after a t = (
       rw (← fill-answer, ← fill-table, stops (answered (padAll filled height .answer) (padAll filled height .left) aux) _ reason a)
           (record { answer = a; left = ap (λ (w : List ℕ). record { table = w; aux = aux }) t }),
-      (refused-no-claim l reason after, λ fine _ h. absurd (declined-not-done reason (a ∙ pads fine h))),
+      (refused-no-claim held reason after, λ fine _ h. absurd (declined-not-done reason (a ∙ pads fine h))),
     )
 
     module _ (padded : List ℕ) (pad-answer : done [] ≡ padAll filled height .answer) (pad-table : padded ≡ padAll filled height .left) where
-      extends : fillReason l table ≡ Fine → extendRefusals l table aux challenges ≡ Fine
+      extends : fillReason held table ≡ Fine → extendRefusals l table aux challenges ≡ Fine
           → extendAll padded aux challenges .answer ≡ done (elementWords (sumFrom (challengesOf challenges) zeroX (firstRows l)))
       extends fine h = rw (pad-table, fill-table, height-is fine h) (none fine h .extend)
 
       pub extend-refused : (reason : Refusal) (after : List ℕ) → declined reason ≡ extendAll padded aux challenges .answer
-          → after ≡ extendAll padded aux challenges .left → Ensured l table aux challenges (declined reason) padded after
+          → after ≡ extendAll padded aux challenges .left → Ensured held table aux challenges (declined reason) padded after
       unfolding runAll
       extend-refused reason after a x = (
         rw (← fill-answer, ← fill-table, ← pad-answer, ← pad-table, stops (answered (extendAll padded aux challenges .answer) padded (extendAll padded aux challenges .left)) _ reason a)
             (record { answer = a; left = ap (λ (w : List ℕ). record { table = padded; aux = w }) x }),
         (
-          refused-no-claim l reason padded,
+          refused-no-claim held reason padded,
           λ fine _ h. absurd (declined-not-done reason (a ∙ extends fine h)),
         ),
       )
 
       pub checked : (sum : List ℕ) (extended : List ℕ) (answer : Answer) → done sum ≡ extendAll padded aux challenges .answer
           → extended ≡ extendAll padded aux challenges .left → answer ≡ checkAll padded extended challenges
-          → Ensured l table aux challenges answer padded extended
+          → Ensured held table aux challenges answer padded extended
       unfolding runAll
       checked sum extended answer a x v = (
         rw (← fill-answer, ← fill-table, ← pad-answer, ← pad-table, ← a, ← x)
@@ -121,13 +125,13 @@ module _ (l : U32List) (table aux challenges : List ℕ) where
         ),
       )
         where
-          padded-is : padded ≡ paddedTable l table height
+          padded-is : padded ≡ paddedTable held table height
           padded-is = rw (pad-table, fill-table)
 
           same-rows : rowCount padded ≡ rowCount table
-          same-rows = ap (λ (t : List ℕ). rowCount t) padded-is ∙ padded-rows (fill-done l table height (sym fill-answer))
+          same-rows = ap (λ (t : List ℕ). rowCount t) padded-is ∙ padded-rows (fill-done held table height (sym fill-answer))
 
-          calls : NoneRefuses l table aux challenges height sum
+          calls : NoneRefuses held table aux challenges height sum
           calls = record {
             fill = sym fill-answer;
             pad = rw (← fill-table) (sym pad-answer);
@@ -136,5 +140,5 @@ module _ (l : U32List) (table aux challenges : List ℕ) where
 
           honest : 0 < rowCount table → (answer ≡ done []) × (copyFlag1Rows padded ≡ firstRows l)
           honest n =
-              let c = four-calls l table aux challenges height sum n calls in
+              let c = four-calls held table aux challenges height sum n calls in
               (v ∙ rw (x, padded-is) (c .zero), rw padded-is (c .first-rows))

@@ -1,19 +1,22 @@
--- "Proved examples" (document 01, under that heading): "These twelve form one table, proved by one theorem" (proofs/Examples.antt).
+-- "Proved examples" (document 01, under that heading): "These twelve form one table, proved by one theorem" (proofs/Examples.antt). And one of
+-- request 6: the section of a key that was dropped back to 0.
 use Prim.Native.Nat.{ℕ, _+_, _-_, _*_}
 use mathlib.Core.Path.{_≡_}
 use mathlib.Core.List.{List, [], _∷_}
 use lib.ListN.{replicate}
 use Rattle.field.specs.Elements.{p}
 use Rattle.xfield.specs.Extension.{Ext, ext, mulX}
+use Rattle.words.specs.Answers.{done}
 use Rattle.isa.specs.Opcodes.{opLt, opLog2Floor, opAnd, opPopCount, opPow}
 use Rattle.isa.specs.PlainFunctions.{plainResult}
 use Rattle.isa.specs.declared.U32TableEntry.{U32TableEntry}
 use Rattle.isa.specs.Entries.{lhs, rhs, entry, height}
-use Rattle.list.specs.Lists.{U32List, u32List}
+use Rattle.list.specs.Holds.{HeldList, heldList, sectionList}
 use Rattle.table.specs.Columns.{mainWidth, rowAt}
 use Rattle.fill_results.specs.declared.Choice.the-variants.{Value}
-use Rattle.fill_sections.specs.Sections.{section, topResult}
-use Rattle.four_calls.specs.FourCalls.{paddedTable}
+use Rattle.fill_sections.specs.Sections.{section, topResult, firstRow}
+use Rattle.fill.specs.Filling.{fillAll}
+use Rattle.four_calls.specs.FourCalls.{firstRows, paddedTable}
 
 pub data Example : Type 0 where
   heightIs : U32TableEntry → ℕ → Example
@@ -39,9 +42,9 @@ examples =
     ∷ cubeIs (ext 0 1 0) (ext (p - 1) 1 0)
     ∷ []
 
--- the list of one entry, with multiplicity 1
-abbrev pub oneEntry : U32TableEntry → U32List
-oneEntry e = u32List (record { capacity = 1; used = 1 }) (e .opcode ∷ lhs e ∷ rhs e ∷ []) (1 ∷ [])
+-- the list of one entry with this multiplicity, and no hold
+abbrev pub oneEntry : U32TableEntry → ℕ → HeldList
+oneEntry e multiplicity = heldList (record { capacity = 1; used = 1 }) (e .opcode ∷ lhs e ∷ rhs e ∷ []) (multiplicity ∷ []) (0 ∷ [])
 
 -- the plain function of an entry, and the Result of the first row of its section
 pub record HasResult (e : U32TableEntry) (result : ℕ) : Type 0 where
@@ -50,7 +53,7 @@ pub record HasResult (e : U32TableEntry) (result : ℕ) : Type 0 where
 
 -- the Result of the row below the section, on a table with one row more, after fill and pad
 pub record HasPadding (e : U32TableEntry) (result : ℕ) : Type 0 where
-  pub padding : rowAt (paddedTable (oneEntry e) (replicate (mainWidth * (height e + 1)) 0) (height e)) (height e) .result ≡ result
+  pub padding : rowAt (paddedTable (oneEntry e 1) (replicate (mainWidth * (height e + 1)) 0) (height e)) (height e) .result ≡ result
 
 abbrev pub Holds : Example → Type 0
 Holds (heightIs e h) = height e ≡ h
@@ -61,3 +64,9 @@ Holds (cubeIs x y) = mulX (mulX x x) x ≡ y
 abbrev pub AllHold : List Example → Type 0
 AllHold [] = Unit {0}
 AllHold (e ∷ es) = Holds e × AllHold es
+
+-- request 6: "A key dropped back to 0 keeps its place and gets a section with multiplicity 0." The list of such a key is filled with these rows, and
+-- the first is the key's, with multiplicity 0
+pub record DroppedHasSection (e : U32TableEntry) (rows : ℕ) : Type 0 where
+  pub fills : fillAll (oneEntry e 0) (replicate (mainWidth * rows) 0) .answer ≡ done (rows ∷ [])
+  pub first-row : firstRows (sectionList (oneEntry e 0)) ≡ firstRow e 0 ∷ []

@@ -14,6 +14,7 @@ use Rattle.xfield.specs.Extension.{Ext, zeroX, addX, scaleX, isZeroX}
 use Rattle.xfield.specs.Inverses.{invX}
 use Rattle.list.specs.Lists.{U32List, entryAt, multiplicityAt}
 use Rattle.list.specs.Heights.{sectionPlaces}
+use Rattle.list.specs.Holds.{HeldList, sectionList}
 use Rattle.table.specs.Columns.{Row, rowAt, rowCount, auxShape, allReduced}
 use Rattle.table.specs.Challenges.{Challenges, challengesOf, challengesShape, rowDenominator}
 use Rattle.sums.specs.LookupSum.{lookupSum}
@@ -58,20 +59,20 @@ sumFrom c sum [] = sum
 sumFrom c sum (r ∷ rs) = sumFrom c (addX sum (scaleX (r .lookupMultiplicity) (invX (rowDenominator c r)))) rs
 
 -- ---- the calls, each on what the one before answered or left: pad takes the height that fill answered
-abbrev pub filledTable : U32List → List ℕ → List ℕ
-filledTable l table = fillAll l table .left
+abbrev pub filledTable : HeldList → List ℕ → List ℕ
+filledTable h table = fillAll h table .left
 
-abbrev pub paddedTable : U32List → List ℕ → ℕ → List ℕ
-paddedTable l table height = padAll (filledTable l table) height .left
+abbrev pub paddedTable : HeldList → List ℕ → ℕ → List ℕ
+paddedTable h table height = padAll (filledTable h table) height .left
 
-abbrev pub extendedAux : U32List → List ℕ → ℕ → List ℕ → List ℕ → List ℕ
-extendedAux l table height aux challenges = extendAll (paddedTable l table height) aux challenges .left
+abbrev pub extendedAux : HeldList → List ℕ → ℕ → List ℕ → List ℕ → List ℕ
+extendedAux h table height aux challenges = extendAll (paddedTable h table height) aux challenges .left
 
 -- none of the three calls before the check refuses
-pub record NoneRefuses (l : U32List) (table aux challenges : List ℕ) (height : ℕ) (sum : List ℕ) : Type 0 where
-  pub fill : fillAll l table .answer ≡ done (height ∷ [])
-  pub pad : padAll (filledTable l table) height .answer ≡ done []
-  pub extend : extendAll (paddedTable l table height) aux challenges .answer ≡ done sum
+pub record NoneRefuses (h : HeldList) (table aux challenges : List ℕ) (height : ℕ) (sum : List ℕ) : Type 0 where
+  pub fill : fillAll h table .answer ≡ done (height ∷ [])
+  pub pad : padAll (filledTable h table) height .answer ≡ done []
+  pub extend : extendAll (paddedTable h table height) aux challenges .answer ≡ done sum
 
 -- the CopyFlag 1 rows of a table are the first rows of a list, and the check answers zero
 pub record Honest (l : U32List) (table aux challenges : List ℕ) : Type 0 where
@@ -86,10 +87,10 @@ extendRefusals l table aux challenges =
     (orElse (declineIf (not (allReduced challenges)) Unreduced)
     (declineIf (not (noneZero (challengesOf challenges) (firstRows l))) Flat))
 
-pub record AfterFill (l : U32List) (table : List ℕ) (height : ℕ) : Type 0 where
-  pub pad-done : padAll (filledTable l table) height .answer ≡ done []
+pub record AfterFill (h : HeldList) (table : List ℕ) (height : ℕ) : Type 0 where
+  pub pad-done : padAll (filledTable h table) height .answer ≡ done []
   pub extend-refuses : (aux challenges : List ℕ)
-      → extendReason (paddedTable l table height) aux challenges ≡ extendRefusals l table aux challenges
+      → extendReason (paddedTable h table height) aux challenges ≡ extendRefusals (sectionList h) table aux challenges
   -- the sum that extend answers is that over the first rows of the list
   pub sum-is : (challenges : List ℕ)
-      → lookupSum (paddedTable l table height) challenges ≡ sumFrom (challengesOf challenges) zeroX (firstRows l)
+      → lookupSum (paddedTable h table height) challenges ≡ sumFrom (challengesOf challenges) zeroX (firstRows (sectionList h))

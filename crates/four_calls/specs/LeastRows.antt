@@ -5,6 +5,7 @@ use mathlib.Core.List.{List, []}
 use Rattle.words.specs.Answers.{done}
 use Rattle.list.specs.Lists.{U32List}
 use Rattle.list.specs.Heights.{sectionEntries}
+use Rattle.list.specs.Holds.{HeldList, sectionList}
 use Rattle.table.specs.Columns.{rowCount}
 use Rattle.air.specs.Check.{zeroAnswer, checkAll}
 use Rattle.row_bound.specs.OwnRows.{OwnRows}
@@ -22,7 +23,7 @@ pub record Shortest (l : U32List) (table aux challenges : List ℕ) : Type 0 whe
   pub none-shorter : (other otherAux otherChallenges : List ℕ) → HonestFor l other otherAux otherChallenges → rowCount table ≤ rowCount other
 
 -- on as many rows as fill reports, or on one where it reports none, the four calls make a shortest table
-abbrev pub FilledIsShortest : U32List → List ℕ → List ℕ → List ℕ → ℕ → List ℕ → Type 0
-FilledIsShortest l table aux challenges height sum =
-    rowCount table ≡ max height 1 → NoneRefuses l table aux challenges height sum
-    → Shortest l (paddedTable l table height) (extendedAux l table height aux challenges) challenges
+abbrev pub FilledIsShortest : HeldList → List ℕ → List ℕ → List ℕ → ℕ → List ℕ → Type 0
+FilledIsShortest h table aux challenges height sum =
+    rowCount table ≡ max height 1 → NoneRefuses h table aux challenges height sum
+    → Shortest (sectionList h) (paddedTable h table height) (extendedAux h table height aux challenges) challenges

@@ -8,7 +8,7 @@ use lib.ListN.{getD}
 use Rattle.words.specs.Answers.{Answer}
 use Rattle.words.specs.Outcomes.{Outcome, Leaves}
 use Rattle.words.specs.declared.Judgement.the-variants.{Fine}
-use Rattle.list.specs.Lists.{U32List}
+use Rattle.list.specs.Holds.{HeldList, sectionList}
 use Rattle.table.specs.Columns.{rowCount}
 use Rattle.air.specs.Check.{zeroAnswer, checkAll}
 use Rattle.fill.specs.Filling.{fillReason, fillAll}
@@ -30,9 +30,9 @@ abbrev pub thenCall : Outcome Arrays → Outcome Arrays → Outcome Arrays
 thenCall made next = cond (eqb (made .answer .number) 0) next made
 
 -- "each takes what the one before answered or left": pad the height that fill answered
-unfoldable pub runAll : U32List → (table aux challenges : List ℕ) → Outcome Arrays
-runAll l table aux challenges =
-    let filling = fillAll l table in
+unfoldable pub runAll : HeldList → (table aux challenges : List ℕ) → Outcome Arrays
+runAll h table aux challenges =
+    let filling = fillAll h table in
     let padding = padAll (filling .left) (getD (filling .answer .values) 0 0) in
     let extension = extendAll (padding .left) aux challenges in
     thenCall (answered (filling .answer) (filling .left) aux)
@@ -41,16 +41,16 @@ runAll l table aux challenges =
     (answered (checkAll (padding .left) (extension .left) challenges) (padding .left) (extension .left))))
 
 -- the answer and both arrays afterwards are those that are due
-abbrev pub Ran : U32List → (table aux challenges : List ℕ) → Answer → (tableAfter auxAfter : List ℕ) → Type 0
-Ran l table aux challenges answer tableAfter auxAfter =
-    Leaves (runAll l table aux challenges) answer (record { table = tableAfter; aux = auxAfter })
+abbrev pub Ran : HeldList → (table aux challenges : List ℕ) → Answer → (tableAfter auxAfter : List ℕ) → Type 0
+Ran h table aux challenges answer tableAfter auxAfter =
+    Leaves (runAll h table aux challenges) answer (record { table = tableAfter; aux = auxAfter })
 
 -- THE CLAIM. A run that refuses nothing answers zero, never a constraint that is not zero; and then the CopyFlag 1 rows of the table are
 -- the first rows of the list, in its order.
-abbrev pub RunsHonestly : U32List → Answer → (tableAfter : List ℕ) → Type 0
-RunsHonestly l answer tableAfter = answer .number ≡ 0 → (answer ≡ zeroAnswer) × (copyFlag1Rows tableAfter ≡ firstRows l)
+abbrev pub RunsHonestly : HeldList → Answer → (tableAfter : List ℕ) → Type 0
+RunsHonestly h answer tableAfter = answer .number ≡ 0 → (answer ≡ zeroAnswer) × (copyFlag1Rows tableAfter ≡ firstRows (sectionList h))
 
 -- And a run refuses nothing where fill does not, there is a row, aux and challenges are right, and no first row's denominator is zero.
-abbrev pub RefusesNoMore : U32List → (table aux challenges : List ℕ) → Answer → Type 0
-RefusesNoMore l table aux challenges answer =
-    fillReason l table ≡ Fine → 0 < rowCount table → extendRefusals l table aux challenges ≡ Fine → answer ≡ zeroAnswer
+abbrev pub RefusesNoMore : HeldList → (table aux challenges : List ℕ) → Answer → Type 0
+RefusesNoMore h table aux challenges answer =
+    fillReason h table ≡ Fine → 0 < rowCount table → extendRefusals (sectionList h) table aux challenges ≡ Fine → answer ≡ zeroAnswer

@@ -2,14 +2,14 @@
 --   shaped, shape-fine: the shape test finds nothing exactly where sizes and lengths fit together.
 --   list-admitted, admitted-fine: the judge finds nothing exactly where the shape is right and the entry and the multiplicity at every
 --   used place are.
---   height-more: one place more adds its entry's height where it gets a section; so a list that is judged fine has at most 33 rows for
+--   height-more: one place more adds its entry's height; so a list that is judged fine has at most 33 rows for
 --   each used place (list-height-bound).
 --   limit-is: the limit of multiplicities is p − 1.
 -- Assumes nothing.
 use Prim.Native.Nat.{ℕ, zero, suc, _+_, _*_, _-_, _≤_, _<_}
 use mathlib.Core.Path.{_≡_, refl, sym, ap, _∙_}
 use mathlib.Core.Bool.{Bool, true, false, not, _||_}
-use mathlib.Core.List.{List, [], _∷_, _++_, append-nil}
+use mathlib.Core.List.{List, [], _∷_, _++_}
 use mathlib.Core.Logic.{⊎-elim}
 use native.Mathlib.Nat.{add-assoc, add-zero, zero-add, le-refl, eq-or-lt-of-le}
 use native.Mathlib.Omega.{arith}
@@ -23,6 +23,8 @@ use Rattle.words.specs.declared.Judgement.{Judgement}
 use Rattle.words.specs.declared.Judgement.the-variants.{Fine, Declined}
 use Rattle.words.specs.declared.Refusal.{Refusal}
 use Rattle.words.specs.declared.Refusal.the-variants.{Shape, CountFull}
+use Rattle.words.specs.Places.{placesFrom, places}
+use Rattle.words.proofs.Places.{places-more}
 use Rattle.words.proofs.Judgements.{decline-true, decline-false, decline-fine, or-next, or-first, or-both, first-fine, first-none}
 use Rattle.isa.specs.declared.U32TableEntry.{U32TableEntry}
 use Rattle.isa.specs.declared.Admission.{Admission}
@@ -31,7 +33,7 @@ use Rattle.isa.specs.Entries.{entryWidth, judgeEntry, admitted, admission, admi
 use Rattle.isa.proofs.Entries.{Admissible, fine-admissible, admission-admitted, admission-refused, admit-admitted, admit-refused, height-admitted}
 use Rattle.list.specs.declared.Judged.the-variants.{Height, Refused}
 use Rattle.list.specs.Lists.{U32List, capacity, used, keyAt, multiplicityAt, entryAt, listShape, countFull, judgeEntryBy, judgePlaceBy, judgePlace, judgeList}
-use Rattle.list.specs.Heights.{getsSection, sectionPlacesTo, entriesAt, sectionEntries, sumHeights, listHeight}
+use Rattle.list.specs.Heights.{entriesAt, sectionEntries, sumHeights, listHeight}
 use Rattle.list.specs.Heights.{judgedAs, judgedPlaces, judgedList}
 
 -- ---- the shape
@@ -172,11 +174,11 @@ module _ (stored : Bool) (l : U32List) where
 
 -- ---- what an answer of `judge_list` or `judge_places` tells
 
-judged-as-height : (j : Judgement) (n h : ℕ) → Height h ≡ judgedAs j n → (j ≡ Fine) × (h ≡ n)
+pub judged-as-height : (j : Judgement) (n h : ℕ) → Height h ≡ judgedAs j n → (j ≡ Fine) × (h ≡ n)
 judged-as-height Fine n h e = (refl, cc)
 judged-as-height (Declined k) n h e = absurd (let z : _≡_ {A = ℕ} 0 1 = cc in omega arith)
 
-judged-as-refused : (j : Judgement) (n : ℕ) (k : Refusal) → Refused k ≡ judgedAs j n → j ≡ Declined k
+pub judged-as-refused : (j : Judgement) (n : ℕ) (k : Refusal) → Refused k ≡ judgedAs j n → j ≡ Declined k
 judged-as-refused Fine n k e = absurd (let z : _≡_ {A = ℕ} 0 1 = cc in omega arith)
 judged-as-refused (Declined r) n k e = cc
 
@@ -200,14 +202,9 @@ judged-refused l k e = judged-as-refused (judgeList l) (listHeight l) k e
 
 -- ---- the height, place by place
 
--- every used place gets a section
-pub every-place : (l : U32List) (i : ℕ) → getsSection l i ≡ true
-unfolding getsSection
-every-place l i = refl
-
--- the entries, among the first n places, that get a section, and the sum of their heights
+-- the entries at the first n places, and the sum of their heights
 unfoldable pub entriesTo : U32List → ℕ → List U32TableEntry
-entriesTo l n = entriesAt l (sectionPlacesTo l n)
+entriesTo l n = entriesAt l (places n)
 
 unfoldable pub heightTo : U32List → ℕ → ℕ
 heightTo l n = sumHeights (entriesTo l n)
@@ -222,33 +219,17 @@ unfolding sumHeights
 sum-append [] fs = sym (zero-add _)
 sum-append (e ∷ es) fs = ap (λ (n : ℕ). height e + n) (sum-append es fs) ∙ sym (add-assoc (height e) _ _)
 
-pub places-more : (l : U32List) (n : ℕ) → getsSection l n ≡ true → sectionPlacesTo l (suc n) ≡ sectionPlacesTo l n ++ (n ∷ [])
-unfolding sectionPlacesTo
-places-more l n s = rw s
-
-pub places-same : (l : U32List) (n : ℕ) → getsSection l n ≡ false → sectionPlacesTo l (suc n) ≡ sectionPlacesTo l n
-unfolding sectionPlacesTo
-places-same l n s = rw s (append-nil _)
-
-pub entries-more : (l : U32List) (n : ℕ) → getsSection l n ≡ true → entriesTo l (suc n) ≡ entriesTo l n ++ (entryAt l n ∷ [])
+pub entries-more : (l : U32List) (n : ℕ) → entriesTo l (suc n) ≡ entriesTo l n ++ (entryAt l n ∷ [])
 unfolding entriesTo entriesAt
-entries-more l n s = ap (entriesAt l) (places-more l n s) ∙ entries-append l (sectionPlacesTo l n) (n ∷ [])
+entries-more l n = ap (entriesAt l) (sym (places-more n)) ∙ entries-append l (places n) (n ∷ [])
 
-pub entries-same : (l : U32List) (n : ℕ) → getsSection l n ≡ false → entriesTo l (suc n) ≡ entriesTo l n
-unfolding entriesTo
-entries-same l n s = ap (entriesAt l) (places-same l n s)
-
-pub height-more : (l : U32List) (n : ℕ) → getsSection l n ≡ true → heightTo l (suc n) ≡ heightTo l n + height (entryAt l n)
+pub height-more : (l : U32List) (n : ℕ) → heightTo l (suc n) ≡ heightTo l n + height (entryAt l n)
 unfolding heightTo sumHeights
-height-more l n s =
-    ap sumHeights (entries-more l n s) ∙ sum-append (entriesTo l n) (entryAt l n ∷ []) ∙ ap (λ (m : ℕ). heightTo l n + m) (add-zero _)
-
-pub height-same : (l : U32List) (n : ℕ) → getsSection l n ≡ false → heightTo l (suc n) ≡ heightTo l n
-unfolding heightTo
-height-same l n s = ap sumHeights (entries-same l n s)
+height-more l n =
+    ap sumHeights (entries-more l n) ∙ sum-append (entriesTo l n) (entryAt l n ∷ []) ∙ ap (λ (m : ℕ). heightTo l n + m) (add-zero _)
 
 pub height-none : (l : U32List) → heightTo l 0 ≡ 0
-unfolding heightTo entriesTo sectionPlacesTo entriesAt sumHeights
+unfolding heightTo entriesTo placesFrom entriesAt sumHeights
 height-none l = refl
 
 pub section-entries : (l : U32List) → sectionEntries l ≡ entriesTo l (used l)
@@ -260,10 +241,7 @@ unfolding listHeight heightTo entriesTo
 list-height l = refl
 
 height-step : (l : U32List) (n : ℕ) → heightTo l n ≤ heightTo l (suc n)
-height-step l n = go (getsSection l n) refl where
-  go : (t : Bool) → getsSection l n ≡ t → heightTo l n ≤ heightTo l (suc n)
-  go true s = omega (arith, height-more l n s)
-  go false s = omega (arith, height-same l n s)
+height-step l n = omega (arith, height-more l n)
 
 -- the rows of the first m places are among those of the first n
 pub height-to-mono : (l : U32List) (m n : ℕ) → m ≤ n → heightTo l m ≤ heightTo l n
@@ -286,7 +264,7 @@ height-to-bound l zero f = omega (arith, height-none l)
 height-to-bound l (suc n) f =
     omega (
       arith,
-      height-more l n (every-place l n),
+      height-more l n,
       height-admitted (keyAt l n) (f n (omega arith)),
       height-to-bound l n (λ i h. f i (omega arith)),
     )

@@ -1,12 +1,11 @@
 -- The entry at a place is its key as admission hands it back (entry-at-key). The entries at runs of places. Every used place gets a section, so the entries of a list are those at its first places.
-use mathlib.Core.Path.{_≡_, refl, ap, _∙_}
-use mathlib.Core.List.{List, [], _∷_, _++_, map}
-use Prim.Native.Nat.{ℕ, zero, suc}
-use Rattle.words.specs.Places.{placesFrom, places}
-use Rattle.words.proofs.Places.{places-more}
+use mathlib.Core.Path.{_≡_, refl}
+use mathlib.Core.List.{List, [], _∷_, map}
+use Prim.Native.Nat.{ℕ}
+use Rattle.words.specs.Places.{places}
 use Rattle.isa.specs.Entries.{admitted}
 use Rattle.list.specs.Lists.{U32List, used, keyAt, entryAt}
-use Rattle.list.specs.Heights.{getsSection, sectionPlacesTo, sectionEntries, entriesAt}
+use Rattle.list.specs.Heights.{sectionEntries, entriesAt}
 
 pub entry-at-key : (l : U32List) (i : ℕ) → entryAt l i ≡ admitted (keyAt l i)
 unfolding entryAt
@@ -17,10 +16,5 @@ unfolding entriesAt
 entries-map l [] = refl
 entries-map l (i ∷ is) = rw (entries-map l is)
 
-pub section-places-to : (l : U32List) (n : ℕ) → sectionPlacesTo l n ≡ places n
-unfolding sectionPlacesTo getsSection placesFrom
-section-places-to l zero = refl
-section-places-to l (suc n) = ap (λ (is : List ℕ). is ++ (n ∷ [])) (section-places-to l n) ∙ places-more n
-
 pub section-entries-map : (l : U32List) → sectionEntries l ≡ map (entryAt l) (places (used l))
-section-entries-map l = rw (section-places-to l (used l)) (entries-map l (places (used l)))
+section-entries-map l = entries-map l (places (used l))

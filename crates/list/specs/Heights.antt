@@ -1,7 +1,8 @@
 -- The height of a list (document 01, "Entry and height": "its height is the sum").
-use Prim.Native.Nat.{ℕ, zero, suc, _+_}
-use mathlib.Core.Bool.{Bool, true, cond}
-use mathlib.Core.List.{List, [], _∷_, _++_}
+use Prim.Native.Nat.{ℕ, _+_}
+use mathlib.Core.Bool.{Bool}
+use mathlib.Core.List.{List, [], _∷_}
+use Rattle.words.specs.Places.{places}
 use Rattle.words.specs.Refusals.{firstReason}
 use Rattle.words.specs.declared.Judgement.{Judgement}
 use Rattle.words.specs.declared.Judgement.the-variants.{Fine, Declined}
@@ -11,17 +12,9 @@ use Rattle.list.specs.Lists.{U32List, used, entryAt, judgePlaceBy, judge
 use Rattle.list.specs.declared.Judged.{Judged}
 use Rattle.list.specs.declared.Judged.the-variants.{Height, Refused}
 
--- whether the entry at a used place gets a section: every one does
-unfoldable pub getsSection : U32List → ℕ → Bool
-getsSection l i = true
-
--- the places, among the first n, that get a section, in list order
-unfoldable pub sectionPlacesTo : U32List → ℕ → List ℕ
-sectionPlacesTo l zero = []
-sectionPlacesTo l (suc n) = sectionPlacesTo l n ++ cond (getsSection l n) (n ∷ []) []
-
+-- the places that get a section, in list order: every used one. Which list it is that is filled stands in Holds.antt: sectionList
 abbrev pub sectionPlaces : U32List → List ℕ
-sectionPlaces l = sectionPlacesTo l (used l)
+sectionPlaces l = places (used l)
 
 -- the entries at these places
 unfoldable pub entriesAt : U32List → List ℕ → List U32TableEntry

@@ -1,4 +1,5 @@
 pub mod Lists
 pub mod Heights
 pub mod Keys
+pub mod Holds
 pub mod Eights

@@ -1,15 +1,17 @@
-// Lists of entries with their multiplicities, judged. A list is its sizes, its keys, three words a place, and its multiplicities, one a place.
+// Lists of entries with their multiplicities, judged. A list is its sizes, its keys, three words a place, and its multiplicities, one a place; its
+// holds, one a place, stand beside it.
 ghost use mathlib.Core.Path.{_≡_};
 ghost use mathlib.Core.Bool.{true};
-ghost use Prim.Native.Nat.{ℕ, _+_, _*_, _≤_, _<_};
+ghost use Prim.Native.Nat.{ℕ, _+_, _*_, _-_, _≤_, _<_};
 ghost use mathlib.Core.List.{List};
-ghost use lib.ListN.{length};
+ghost use lib.ListN.{length, replicate};
 ghost use lib.Seq.{sets};
 ghost use Rattle.words.specs.Limits.{maxPlaces};
 ghost use Rattle.isa.specs.Entries.{entryWords, entryWidth, admission};
 ghost use Rattle.list.specs.Lists.{u32List, keyAt, entryAt, listShape, countFull, judgeEntryBy};
 ghost use Rattle.list.specs.Heights.{judgedPlaces, judgedList};
 ghost use Rattle.list.specs.Keys.{sameKey, findFrom};
+ghost use Rattle.list.specs.Holds.{heldList, heldShape, openHold, judgedHeld};
 ghost use Rattle.list.specs.Eights.{EightDiffer, otherWord};
 use field::BFieldElement;
 use isa::Admission;
@@ -198,6 +200,17 @@ pub fn count_full(multiplicity: u64) -> bool
     MULTIPLICITY_LIMIT < multiplicity
 }
 
+// Reason 5 where one more is recorded or held: count and holds together would pass the limit. They are not added first: a word may be too small for
+// the sum.
+pub fn one_more_is_full(multiplicity: u64, holds: u64) -> bool
+    ensures { λ r. ⌜ r ≡ countFull (multiplicity + holds + 1) ⌝ }
+{
+    if MULTIPLICITY_LIMIT <= multiplicity {
+        return true;
+    }
+    MULTIPLICITY_LIMIT - multiplicity <= holds
+}
+
 // An entry admitted by one of the two rules: that of stored bytes, or the other.
 fn admit_by(stored: bool, key: U32TableEntry) -> Admission
     ensures { λ r. ⌜ r ≡ admission (judgeEntryBy stored key) key ⌝ }
@@ -239,4 +252,57 @@ pub fn judge_list(sizes: Sizes, keys: &[u64], multiplicities: &[u64]) -> Judged
         return Judged::Refused(reason);
     }
     judge_places(false, sizes.used, keys, multiplicities)
+}
+
+// Reason 1 against a list with its holds.
+pub fn held_shape(sizes: Sizes, keys: &[u64], multiplicities: &[u64], holds: &[u64]) -> Judgement
+    ensures { λ r. ⌜ r ≡ heldShape (heldList sizes (now (keys .entry)) (now (multiplicities .entry)) (now (holds .entry))) ⌝ }
+{
+    if let Judgement::Declined(reason) = list_shape(sizes, keys, multiplicities) {
+        return Judgement::Declined(reason);
+    }
+    if holds.len() != sizes.capacity {
+        return Judgement::Declined(Refusal::Shape);
+    }
+    Judgement::Fine
+}
+
+// Reason 15: an open hold among the first `used` places.
+fn open_hold(used: usize, holds: &[u64]) -> Judgement
+    requires { ⌜ used ≤ length (now holds) ⌝ }
+    ensures { λ r. ⌜ ((capacity : ℕ) (ks ms : List ℕ) → r ≡ openHold (heldList (record { capacity = capacity; used = used }) ks ms (now (holds .entry)))) ⌝ }
+{
+    let mut place: usize = 0;
+    while place < used {
+        if holds[place] != 0 {
+            return Judgement::Declined(Refusal::OpenHold);
+        }
+        place += 1;
+    }
+    Judgement::Fine
+}
+
+// Reasons 1 and 15, then 2 to 5 entry by entry; where there is none, the height of what gets sections.
+pub fn judge_held(sizes: Sizes, keys: &[u64], multiplicities: &[u64], holds: &[u64]) -> Judged
+    ensures { λ r. ⌜ r ≡ judgedHeld (heldList sizes (now (keys .entry)) (now (multiplicities .entry)) (now (holds .entry))) ⌝ }
+{
+    if let Judgement::Declined(reason) = held_shape(sizes, keys, multiplicities, holds) {
+        return Judged::Refused(reason);
+    }
+    if let Judgement::Declined(reason) = open_hold(sizes.used, holds) {
+        return Judged::Refused(reason);
+    }
+    judge_list(sizes, keys, multiplicities)
+}
+
+// Places `from` to `to` − 1 of an array that has a word a place become 0.
+pub fn clear_places(counts: &mut [u64], from: usize, to: usize)
+    requires { ⌜ to ≤ length (now counts) ⌝ }
+    ensures { λ _. ⌜ now (counts .exit) ≡ sets (now (counts .entry)) from (replicate (to - from) 0) ⌝ }
+{
+    let mut place = from;
+    while place < to {
+        counts[place] = 0;
+        place += 1;
+    }
 }

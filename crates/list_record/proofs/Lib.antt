@@ -1,7 +1,9 @@
 pub mod PaddedHeight
 pub mod RecordingCases
+pub mod HoldingCases
 pub mod OneKey
 pub mod RecordEach
 pub mod Stores
 pub mod Views
 pub mod RecordViews
+pub mod HoldViews

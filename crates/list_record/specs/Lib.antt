@@ -1,3 +1,4 @@
 pub mod Plan
 pub mod Recording
+pub mod Holding
 pub mod Placing

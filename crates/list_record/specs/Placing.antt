@@ -11,28 +11,30 @@ use Rattle.words.specs.declared.Judgement.{Judgement}
 use Rattle.words.specs.declared.Judgement.the-variants.{Fine, Declined}
 use Rattle.isa.specs.declared.U32TableEntry.{U32TableEntry}
 use Rattle.isa.specs.Entries.{entryWidth, admitted}
-use Rattle.list.specs.Lists.{U32List, used, multiplicityAt, countFull}
-use Rattle.list.specs.Keys.{findKey}
+use Rattle.list.specs.Lists.{used, multiplicityAt, countFull}
+use Rattle.list.specs.Holds.{HeldList, holdAt}
 use Rattle.list_record.specs.declared.Place.{Place}
 use Rattle.list_record.specs.declared.Place.the-variants.{Known, New, Refused}
-use Rattle.list_record.specs.Recording.{known, recordReason, raised, appended}
+use Rattle.list_record.specs.Recording.{placeIn, known, recordReason, raised, appended}
 
 -- the place of the first equal key, or the new key, unless a reason speaks against it
-abbrev pub placeAs : Judgement → U32List → U32TableEntry → Place
-placeAs Fine l e = cond (known l e) (Known (findKey l e)) (New e)
-placeAs (Declined reason) l e = Refused reason
+abbrev pub placeAs : Judgement → HeldList → U32TableEntry → Place
+placeAs Fine h e = cond (known h e) (Known (placeIn h e)) (New e)
+placeAs (Declined reason) h e = Refused reason
 
-unfoldable pub placeOf : U32List → U32TableEntry → Place
-placeOf l e = placeAs (recordReason l e) l (admitted e)
+unfoldable pub placeOf : HeldList → U32TableEntry → Place
+placeOf h e = placeAs (recordReason h e) h (admitted e)
 
--- what storing there leaves
-abbrev pub storedAt : U32List → Place → Outcome U32List
-storedAt l (Known i) = record { answer = done (i ∷ []); left = raised l i }
-storedAt l (New e) = record { answer = done (used l ∷ []); left = appended l e }
-storedAt l (Refused reason) = record { answer = declined reason; left = l }
+-- what storing so many counts and holds there leaves
+abbrev pub storedAt : (count hold : ℕ) → HeldList → Place → Outcome HeldList
+storedAt count hold h (Known i) = record { answer = done (i ∷ []); left = raised count hold h i }
+storedAt count hold h (New e) = record { answer = done (used (h .list) ∷ []); left = appended count hold h e }
+storedAt count hold h (Refused reason) = record { answer = declined reason; left = h }
 
--- there is room for it: the multiplicity can gain one, the key has its words
-abbrev pub Fits : U32List → Place → Type 0
-Fits l (Known i) = (i < length (l .multiplicities)) × (countFull (multiplicityAt l i + 1) ≡ false)
-Fits l (New e) = (entryWidth * used l + 2 < length (l .keys)) × (used l < length (l .multiplicities))
-Fits l (Refused reason) = Unit {0}
+-- there is room for it: count and holds can gain one, the key has its words
+abbrev pub Fits : HeldList → Place → Type 0
+Fits h (Known i) =
+    (i < length (h .list .multiplicities)) × (i < length (h .holds)) × (countFull (multiplicityAt (h .list) i + holdAt h i + 1) ≡ false)
+Fits h (New e) =
+    (entryWidth * used (h .list) + 2 < length (h .list .keys)) × (used (h .list) < length (h .list .multiplicities)) × (used (h .list) < length (h .holds))
+Fits h (Refused reason) = Unit {0}

@@ -6,8 +6,8 @@ use lib.Dec.{ltb}
 use Rattle.words.specs.Limits.{minPaddedHeight}
 use Rattle.words.specs.Answers.{Answer, done, declined}
 use Rattle.words.specs.Outcomes.{answered}
-use Rattle.list.specs.Lists.{U32List, judgeList}
 use Rattle.list.specs.Heights.{listHeight}
+use Rattle.list.specs.Holds.{HeldList, sectionList, judgeHeld}
 use Rattle.list_record.specs.declared.Planned.{Planned}
 use Rattle.list_record.specs.declared.Planned.the-variants.{Heights, Refused as PlanRefused}
 
@@ -20,9 +20,9 @@ doubledTo (suc fuel) q h = cond (ltb q h) (doubledTo fuel (2 * q) h) q
 unfoldable pub paddedHeight : ℕ → ℕ
 paddedHeight h = doubledTo h minPaddedHeight h
 
--- "The plan answers height and padded height": 1, then 2 to 5 entry by entry
-unfoldable pub planAll : U32List → Answer
-planAll l = answered (judgeList l) (listHeight l ∷ paddedHeight (listHeight l) ∷ [])
+-- "The plan answers height and padded height": 1, 15, then 2 to 5 entry by entry
+unfoldable pub planAll : HeldList → Answer
+planAll h = answered (judgeHeld h) (listHeight (sectionList h) ∷ paddedHeight (listHeight (sectionList h)) ∷ [])
 
 -- what the answer of `plan` means
 abbrev pub plannedAnswer : Planned → Answer

@@ -1,17 +1,20 @@
-// Planning and recording. A list is its sizes, its keys, three words a place, and its multiplicities, one a place.
+// Planning, recording, and recording in two parts: a hold, then its confirmation or its end. A list is its sizes, its keys, three words a place, its
+// multiplicities and its holds, one each a place.
 ghost use mathlib.Core.Path.{_≡_};
-ghost use Prim.Native.Nat.{_*_, _^_, _≤_, _<_};
+ghost use Prim.Native.Nat.{_+_, _*_, _^_, _≤_, _<_};
 ghost use lib.ListN.{length};
-ghost use Rattle.words.specs.Outcomes.{Leaves};
+ghost use Rattle.words.specs.Outcomes.{Leaves, completedAnswer};
 ghost use Rattle.isa.specs.Entries.{entry, entryWidth};
-ghost use Rattle.list.specs.Lists.{u32List};
+ghost use Rattle.list.specs.Holds.{heldList};
 ghost use Rattle.list_record.specs.Plan.{paddedHeight, planAll, plannedAnswer};
-ghost use Rattle.list_record.specs.Recording.{placeReason, recordAll, recordedAnswer};
+ghost use Rattle.list_record.specs.Recording.{placeReason, recordWith, recordAll, holdAll, recordedAnswer};
+ghost use Rattle.list_record.specs.Holding.{dropReason, confirmAll, dropAll};
 ghost use Rattle.list_record.specs.Placing.{placeAs, placeOf, storedAt, Fits};
 use isa::Admission;
 use isa::U32TableEntry;
 use list::Judged;
 pub use list::Sizes;
+use words::Completed;
 use words::Judgement;
 pub use words::MAX_PLACES;
 use words::MIN_PADDED_HEIGHT;
@@ -23,7 +26,7 @@ pub enum Planned {
     Refused(Refusal),
 }
 
-// The place of a recorded key, or why the recording is declined.
+// The place of a recorded or held key, or why the recording is declined.
 pub enum Recorded {
     At(usize),
     Refused(Refusal),
@@ -59,10 +62,10 @@ pub fn padded_height(height: u64) -> u64
 }
 
 // The list's height and its padded height.
-pub fn plan(sizes: Sizes, keys: &[u64], multiplicities: &[u64]) -> Planned
-    ensures { λ r. ⌜ plannedAnswer r ≡ planAll (u32List sizes (now (keys .entry)) (now (multiplicities .entry))) ⌝ }
+pub fn plan(sizes: Sizes, keys: &[u64], multiplicities: &[u64], holds: &[u64]) -> Planned
+    ensures { λ r. ⌜ plannedAnswer r ≡ planAll (heldList sizes (now (keys .entry)) (now (multiplicities .entry)) (now (holds .entry))) ⌝ }
 {
-    match list::judge_list(sizes, keys, multiplicities) {
+    match list::judge_held(sizes, keys, multiplicities, holds) {
         Judged::Height(height) => Planned::Heights {
             height,
             padded: padded_height(height),
@@ -72,18 +75,20 @@ pub fn plan(sizes: Sizes, keys: &[u64], multiplicities: &[u64]) -> Planned
 }
 
 // Where an admitted entry goes: to the first equal key, or as a new key; or 5 or 6.
-fn find_admitted(sizes: Sizes, keys: &[u64], multiplicities: &[u64], e: U32TableEntry) -> Place
-    requires { ⌜ (entryWidth * sizes .used ≤ length (now keys)) × (sizes .used ≤ length (now multiplicities)) ⌝ }
-    ensures { λ r. ⌜ r ≡ placeAs (placeReason (u32List sizes (now (keys .entry)) (now (multiplicities .entry))) e) (u32List sizes (now (keys .entry)) (now (multiplicities .entry))) e ⌝ }
+fn find_admitted(
+    sizes: Sizes,
+    keys: &[u64],
+    multiplicities: &[u64],
+    holds: &[u64],
+    e: U32TableEntry,
+) -> Place
+    requires { ⌜ (entryWidth * sizes .used ≤ length (now keys)) × (sizes .used ≤ length (now multiplicities)) × (sizes .used ≤ length (now holds)) ⌝ }
+    ensures { λ r. ⌜ r ≡ placeAs (placeReason (heldList sizes (now (keys .entry)) (now (multiplicities .entry)) (now (holds .entry))) e) (heldList sizes (now (keys .entry)) (now (multiplicities .entry)) (now (holds .entry))) e ⌝ }
 {
     let used = sizes.used;
     let at = list::find(keys, used, e);
     if at < used {
-        let multiplicity = multiplicities[at];
-        if list::count_full(multiplicity) {
-            return Place::Refused(Refusal::CountFull);
-        }
-        if list::count_full(multiplicity + 1) {
+        if list::one_more_is_full(multiplicities[at], holds[at]) {
             return Place::Refused(Refusal::CountFull);
         }
         return Place::Known(at);
@@ -100,29 +105,40 @@ pub fn find_place(
     sizes: Sizes,
     keys: &[u64],
     multiplicities: &[u64],
+    holds: &[u64],
     opcode: u64,
     left_operand: u64,
     right_operand: u64,
 ) -> Place
-    ensures { λ r. ⌜ r ≡ placeOf (u32List sizes (now (keys .entry)) (now (multiplicities .entry))) (entry opcode «left_operand» «right_operand») ⌝ }
+    ensures { λ r. ⌜ r ≡ placeOf (heldList sizes (now (keys .entry)) (now (multiplicities .entry)) (now (holds .entry))) (entry opcode «left_operand» «right_operand») ⌝ }
 {
-    if let Judgement::Declined(reason) = list::list_shape(sizes, keys, multiplicities) {
+    if let Judgement::Declined(reason) = list::held_shape(sizes, keys, multiplicities, holds) {
         return Place::Refused(reason);
     }
     match U32TableEntry::new(opcode, left_operand, right_operand).admit() {
         Admission::Refused(reason) => Place::Refused(reason),
-        Admission::Admitted(e) => find_admitted(sizes, keys, multiplicities, e),
+        Admission::Admitted(e) => find_admitted(sizes, keys, multiplicities, holds, e),
     }
 }
 
-// Stores at a place that was found: the key there gains one, or the new key is appended with 1; a refusal stores nothing.
-pub fn store(sizes: Sizes, keys: &mut [u64], multiplicities: &mut [u64], place: Place) -> Recording
-    requires { ⌜ Fits (u32List sizes (now keys) (now multiplicities)) place ⌝ }
-    ensures { λ r. ⌜ Leaves (storedAt (u32List sizes (now (keys .entry)) (now (multiplicities .entry))) place) (recordedAnswer (r .answer)) (u32List (r .sizes) (now (keys .exit)) (now (multiplicities .exit))) ⌝ }
+// Stores at a place that was found: the key there gains so many counts and holds, at most one of each, or the new key is appended with them; a
+// refusal stores nothing.
+pub fn store(
+    sizes: Sizes,
+    keys: &mut [u64],
+    multiplicities: &mut [u64],
+    holds: &mut [u64],
+    place: Place,
+    count: u64,
+    hold: u64,
+) -> Recording
+    requires { ⌜ (count ≤ 1) × (hold ≤ 1) × Fits (heldList sizes (now keys) (now multiplicities) (now holds)) place ⌝ }
+    ensures { λ r. ⌜ Leaves (storedAt count hold (heldList sizes (now (keys .entry)) (now (multiplicities .entry)) (now (holds .entry))) place) (recordedAnswer (r .answer)) (heldList (r .sizes) (now (keys .exit)) (now (multiplicities .exit)) (now (holds .exit))) ⌝ }
 {
     match place {
         Place::Known(at) => {
-            multiplicities[at] += 1;
+            multiplicities[at] += count;
+            holds[at] += hold;
             Recording {
                 answer: Recorded::At(at),
                 sizes,
@@ -131,7 +147,8 @@ pub fn store(sizes: Sizes, keys: &mut [u64], multiplicities: &mut [u64], place: 
         Place::New(e) => {
             let used = sizes.used;
             list::put_key(keys, used, e);
-            multiplicities[used] = 1;
+            multiplicities[used] = count;
+            holds[used] = hold;
             Recording {
                 answer: Recorded::At(used),
                 sizes: Sizes {
@@ -147,26 +164,56 @@ pub fn store(sizes: Sizes, keys: &mut [u64], multiplicities: &mut [u64], place: 
     }
 }
 
-// The first equal key gains one; else the key is appended with 1. The sizes come back beside the answer.
-pub fn record_u32_table_entry_by_value(
+// The first equal key gains so many counts and holds; else the key is appended with them. The sizes come back beside the answer.
+fn record_with(
     sizes: Sizes,
     keys: &mut [u64],
     multiplicities: &mut [u64],
+    holds: &mut [u64],
     opcode: u64,
     left_operand: u64,
     right_operand: u64,
+    count: u64,
+    hold: u64,
 ) -> Recording
-    ensures { λ r. ⌜ Leaves (recordAll (u32List sizes (now (keys .entry)) (now (multiplicities .entry))) (entry opcode «left_operand» «right_operand»)) (recordedAnswer (r .answer)) (u32List (r .sizes) (now (keys .exit)) (now (multiplicities .exit))) ⌝ }
+    requires { ⌜ (count ≤ 1) × (hold ≤ 1) ⌝ }
+    ensures { λ r. ⌜ Leaves (recordWith count hold (heldList sizes (now (keys .entry)) (now (multiplicities .entry)) (now (holds .entry))) (entry opcode «left_operand» «right_operand»)) (recordedAnswer (r .answer)) (heldList (r .sizes) (now (keys .exit)) (now (multiplicities .exit)) (now (holds .exit))) ⌝ }
 {
     let place = find_place(
         sizes,
         keys,
         multiplicities,
+        holds,
         opcode,
         left_operand,
         right_operand,
     );
-    store(sizes, keys, multiplicities, place)
+    store(sizes, keys, multiplicities, holds, place, count, hold)
+}
+
+// The first equal key gains one; else the key is appended with 1. The sizes come back beside the answer.
+pub fn record_u32_table_entry_by_value(
+    sizes: Sizes,
+    keys: &mut [u64],
+    multiplicities: &mut [u64],
+    holds: &mut [u64],
+    opcode: u64,
+    left_operand: u64,
+    right_operand: u64,
+) -> Recording
+    ensures { λ r. ⌜ Leaves (recordAll (heldList sizes (now (keys .entry)) (now (multiplicities .entry)) (now (holds .entry))) (entry opcode «left_operand» «right_operand»)) (recordedAnswer (r .answer)) (heldList (r .sizes) (now (keys .exit)) (now (multiplicities .exit)) (now (holds .exit))) ⌝ }
+{
+    record_with(
+        sizes,
+        keys,
+        multiplicities,
+        holds,
+        opcode,
+        left_operand,
+        right_operand,
+        1,
+        0,
+    )
 }
 
 // The same recording, with the sizes lent.
@@ -174,16 +221,18 @@ pub fn record_u32_table_entry(
     sizes: &mut Sizes,
     keys: &mut [u64],
     multiplicities: &mut [u64],
+    holds: &mut [u64],
     opcode: u64,
     left_operand: u64,
     right_operand: u64,
 ) -> Recorded
-    ensures { λ r. ⌜ Leaves (recordAll (u32List (now (sizes .entry)) (now (keys .entry)) (now (multiplicities .entry))) (entry opcode «left_operand» «right_operand»)) (recordedAnswer r) (u32List (now (sizes .exit)) (now (keys .exit)) (now (multiplicities .exit))) ⌝ }
+    ensures { λ r. ⌜ Leaves (recordAll (heldList (now (sizes .entry)) (now (keys .entry)) (now (multiplicities .entry)) (now (holds .entry))) (entry opcode «left_operand» «right_operand»)) (recordedAnswer r) (heldList (now (sizes .exit)) (now (keys .exit)) (now (multiplicities .exit)) (now (holds .exit))) ⌝ }
 {
     let r = record_u32_table_entry_by_value(
         *sizes,
         keys,
         multiplicities,
+        holds,
         opcode,
         left_operand,
         right_operand,
@@ -197,16 +246,18 @@ pub fn record_lending(
     mut held: Sizes,
     keys: &mut [u64],
     multiplicities: &mut [u64],
+    holds: &mut [u64],
     opcode: u64,
     left_operand: u64,
     right_operand: u64,
 ) -> Recording
-    ensures { λ r. ⌜ Leaves (recordAll (u32List held (now (keys .entry)) (now (multiplicities .entry))) (entry opcode «left_operand» «right_operand»)) (recordedAnswer (r .answer)) (u32List (r .sizes) (now (keys .exit)) (now (multiplicities .exit))) ⌝ }
+    ensures { λ r. ⌜ Leaves (recordAll (heldList held (now (keys .entry)) (now (multiplicities .entry)) (now (holds .entry))) (entry opcode «left_operand» «right_operand»)) (recordedAnswer (r .answer)) (heldList (r .sizes) (now (keys .exit)) (now (multiplicities .exit)) (now (holds .exit))) ⌝ }
 {
     let answer = record_u32_table_entry(
         &mut held,
         keys,
         multiplicities,
+        holds,
         opcode,
         left_operand,
         right_operand,
@@ -215,4 +266,114 @@ pub fn record_lending(
         answer,
         sizes: held,
     }
+}
+
+// The first equal key gains one hold; else the key is appended with multiplicity 0 and one hold. The sizes come back beside the answer.
+pub fn hold_u32_table_entry_by_value(
+    sizes: Sizes,
+    keys: &mut [u64],
+    multiplicities: &mut [u64],
+    holds: &mut [u64],
+    opcode: u64,
+    left_operand: u64,
+    right_operand: u64,
+) -> Recording
+    ensures { λ r. ⌜ Leaves (holdAll (heldList sizes (now (keys .entry)) (now (multiplicities .entry)) (now (holds .entry))) (entry opcode «left_operand» «right_operand»)) (recordedAnswer (r .answer)) (heldList (r .sizes) (now (keys .exit)) (now (multiplicities .exit)) (now (holds .exit))) ⌝ }
+{
+    record_with(
+        sizes,
+        keys,
+        multiplicities,
+        holds,
+        opcode,
+        left_operand,
+        right_operand,
+        0,
+        1,
+    )
+}
+
+// The same hold, with the sizes lent.
+pub fn hold_u32_table_entry(
+    sizes: &mut Sizes,
+    keys: &mut [u64],
+    multiplicities: &mut [u64],
+    holds: &mut [u64],
+    opcode: u64,
+    left_operand: u64,
+    right_operand: u64,
+) -> Recorded
+    ensures { λ r. ⌜ Leaves (holdAll (heldList (now (sizes .entry)) (now (keys .entry)) (now (multiplicities .entry)) (now (holds .entry))) (entry opcode «left_operand» «right_operand»)) (recordedAnswer r) (heldList (now (sizes .exit)) (now (keys .exit)) (now (multiplicities .exit)) (now (holds .exit))) ⌝ }
+{
+    let r = hold_u32_table_entry_by_value(
+        *sizes,
+        keys,
+        multiplicities,
+        holds,
+        opcode,
+        left_operand,
+        right_operand,
+    );
+    *sizes = r.sizes;
+    r.answer
+}
+
+// Reasons 1 and 16 against ending a hold at a position.
+fn judge_drop(
+    sizes: Sizes,
+    keys: &[u64],
+    multiplicities: &[u64],
+    holds: &[u64],
+    position: usize,
+) -> Judgement
+    ensures { λ r. ⌜ r ≡ dropReason (heldList sizes (now (keys .entry)) (now (multiplicities .entry)) (now (holds .entry))) position ⌝ }
+{
+    if let Judgement::Declined(reason) = list::held_shape(sizes, keys, multiplicities, holds) {
+        return Judgement::Declined(reason);
+    }
+    if sizes.used <= position {
+        return Judgement::Declined(Refusal::NoHold);
+    }
+    if holds[position] == 0 {
+        return Judgement::Declined(Refusal::NoHold);
+    }
+    Judgement::Fine
+}
+
+// One hold at the position becomes one count.
+pub fn confirm_hold(
+    sizes: Sizes,
+    keys: &[u64],
+    multiplicities: &mut [u64],
+    holds: &mut [u64],
+    position: usize,
+) -> Completed
+    ensures { λ r. ⌜ Leaves (confirmAll (heldList sizes (now (keys .entry)) (now (multiplicities .entry)) (now (holds .entry))) position) (completedAnswer r) (heldList sizes (now (keys .entry)) (now (multiplicities .exit)) (now (holds .exit))) ⌝ }
+{
+    if let Judgement::Declined(reason) = judge_drop(sizes, keys, multiplicities, holds, position) {
+        return Completed::Refused(reason);
+    }
+    if list::one_more_is_full(multiplicities[position], 0) {
+        return Completed::Refused(Refusal::CountFull);
+    }
+    multiplicities[position] += 1;
+    holds[position] -= 1;
+    Completed::Done
+}
+
+// One hold at the position is no more.
+pub fn drop_hold(
+    sizes: Sizes,
+    keys: &[u64],
+    multiplicities: &[u64],
+    holds: &mut [u64],
+    position: usize,
+) -> Completed
+    ensures { λ r. ⌜ Leaves (dropAll (heldList sizes (now (keys .entry)) (now (multiplicities .entry)) (now (holds .entry))) position) (completedAnswer r) (heldList sizes (now (keys .entry)) (now (multiplicities .entry)) (now (holds .exit))) ⌝ }
+{
+    if let Judgement::Declined(reason) = judge_drop(sizes, keys, multiplicities, holds, position) {
+        return Completed::Refused(reason);
+    }
+    holds[position] -= 1;
+    Completed::Done
 }

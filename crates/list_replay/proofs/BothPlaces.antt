@@ -19,18 +19,19 @@ use Rattle.isa.specs.declared.U32TableEntry.{U32TableEntry}
 use Rattle.isa.specs.Entries.{judgeEntry, admitted}
 use Rattle.isa.proofs.Entries.{opcode-admitted}
 use Rattle.list.specs.declared.Sizes.{Sizes}
-use Rattle.list.specs.Lists.{U32List, capacity, used, multiplicityAt, entryAt, listShape, countFull}
+use Rattle.list.specs.Lists.{capacity, used, multiplicityAt, entryAt, countFull}
 use Rattle.list.specs.Keys.{sameKey, findKey}
+use Rattle.list.specs.Holds.{HeldList, holdAt, heldShape}
 use Rattle.list.proofs.Finding.{same-key-equal, find-within, find-holds}
-use Rattle.list.proofs.JudgedLists.{Shaped, shaped}
+use Rattle.list.proofs.HeldLists.{HeldShaped, held-shaped}
 use Rattle.list_record.specs.declared.Place.{Place}
 use Rattle.list_record.specs.declared.Place.the-variants.{Known, New, Refused}
-use Rattle.list_record.specs.Recording.{known, placeReason, recordReason, raised, appended, recordAll, recordEach}
+use Rattle.list_record.specs.Recording.{placeIn, known, placeReason, recordReason, raised, appended, recordAll, recordEach}
 use Rattle.list_record.specs.Placing.{placeAs, placeOf, storedAt, Fits}
 use Rattle.list_record.proofs.RecordingCases.{place-known, place-full, place-new, no-place, shape-declined, entry-declined, place-admitted}
 use Rattle.list_record.proofs.RecordingCases.{recorded-at, place-fits, record-keeps-shape}
 use Rattle.list_record.proofs.RecordEach.{numberOf, each-accepted, each-refused}
-use Rattle.list_record.proofs.Stores.{raised-find, raised-count, appended-count, new-entry, appended-known, appended-unknown}
+use Rattle.list_record.proofs.Stores.{settled-find, settled-count, settled-hold, appended-count, appended-hold, new-entry, appended-known, appended-unknown}
 use Rattle.list_replay.specs.Together.{secondPlace, reasonAt}
 use Rattle.list_replay.specs.Replay.{recordTogether}
 use Rattle.list_replay.proofs.Walks.{together-done, together-refused, declined-positive}
@@ -41,77 +42,86 @@ other-key x y d = rw (ne-eqb (x .opcode) (y .opcode) d)
 
 -- ---- the place of an admitted entry, once the key of another opcode gained one, or was appended
 
-raised-place : (l : U32List) (a g : U32TableEntry) → a .opcode ≢ g .opcode → findKey l a < used l
-    → placeAs (placeReason (raised l (findKey l a)) g) (raised l (findKey l a)) g ≡ placeAs (placeReason l g) l g
-raised-place l a g d h =
-    go (ltb (findKey l g) (used l)) refl (countFull (multiplicityAt l (findKey l g) + 1)) refl (ltb (used l) (capacity l)) refl
-  where
-    found : findKey l g ≡ findKey (raised l (findKey l a)) g
-    found = sym (raised-find l (findKey l a) g)
+abbrev full : HeldList → ℕ → Bool
+full h i = countFull (multiplicityAt (h .list) i + holdAt h i + 1)
 
-    apart : findKey l g < used l → findKey l g ≢ findKey l a
+same-full : (h m : HeldList) (i : ℕ) → multiplicityAt (m .list) i ≡ multiplicityAt (h .list) i → holdAt m i ≡ holdAt h i → full m i ≡ full h i
+same-full h m i c d =
+    ap (λ (n : ℕ). countFull (n + holdAt m i + 1)) c ∙ ap (λ (n : ℕ). countFull (multiplicityAt (h .list) i + n + 1)) d
+
+raised-place : (h : HeldList) (a g : U32TableEntry) → a .opcode ≢ g .opcode → placeIn h a < used (h .list)
+    → placeAs (placeReason (raised 1 0 h (placeIn h a)) g) (raised 1 0 h (placeIn h a)) g ≡ placeAs (placeReason h g) h g
+raised-place h a g d at =
+    go (ltb (placeIn h g) (used (h .list))) refl (full h (placeIn h g)) refl (ltb (used (h .list)) (capacity (h .list))) refl
+  where
+    found : placeIn h g ≡ placeIn (raised 1 0 h (placeIn h a)) g
+    found = sym (settled-find h (placeIn h a) (multiplicityAt (h .list) (placeIn h a) + 1) (holdAt h (placeIn h a) + 0) g)
+
+    apart : placeIn h g < used (h .list) → placeIn h g ≢ placeIn h a
     apart k q =
         d (ap (λ (x : U32TableEntry). x .opcode)
-        (sym (same-key-equal (entryAt l (findKey l a)) a (find-holds l a h)) ∙ ap (entryAt l) (sym q)
-        ∙ same-key-equal (entryAt l (findKey l g)) g (find-holds l g k)))
+        (sym (same-key-equal (entryAt (h .list) (placeIn h a)) a (find-holds (h .list) a at)) ∙ ap (entryAt (h .list)) (sym q)
+        ∙ same-key-equal (entryAt (h .list) (placeIn h g)) g (find-holds (h .list) g k)))
 
-    count : findKey l g < used l → multiplicityAt (raised l (findKey l a)) (findKey l g) ≡ multiplicityAt l (findKey l g)
-    count k = raised-count l (findKey l a) (findKey l g) (apart k)
+    same : placeIn h g < used (h .list) → full (raised 1 0 h (placeIn h a)) (placeIn h g) ≡ full h (placeIn h g)
+    same k =
+        same-full h (raised 1 0 h (placeIn h a)) (placeIn h g)
+        (settled-count h (placeIn h a) (multiplicityAt (h .list) (placeIn h a) + 1) (holdAt h (placeIn h a) + 0) (placeIn h g) (apart k))
+        (settled-hold h (placeIn h a) (multiplicityAt (h .list) (placeIn h a) + 1) (holdAt h (placeIn h a) + 0) (placeIn h g) (apart k))
 
-    go : (t : Bool) → ltb (findKey l g) (used l) ≡ t → (c : Bool) → countFull (multiplicityAt l (findKey l g) + 1) ≡ c
-        → (u : Bool) → ltb (used l) (capacity l) ≡ u
-        → placeAs (placeReason (raised l (findKey l a)) g) (raised l (findKey l a)) g ≡ placeAs (placeReason l g) l g
+    go : (t : Bool) → ltb (placeIn h g) (used (h .list)) ≡ t → (c : Bool) → full h (placeIn h g) ≡ c
+        → (u : Bool) → ltb (used (h .list)) (capacity (h .list)) ≡ u
+        → placeAs (placeReason (raised 1 0 h (placeIn h a)) g) (raised 1 0 h (placeIn h a)) g ≡ placeAs (placeReason h g) h g
     go true k false c u r =
-        let b = ltb-true (findKey l g) (used l) k in
-        place-known (raised l (findKey l a)) g (findKey l g) found b (ap (λ (n : ℕ). countFull (n + 1)) (count b) ∙ c)
-        ∙ sym (place-known l g (findKey l g) refl b c)
+        let b = ltb-true (placeIn h g) (used (h .list)) k in
+        place-known (raised 1 0 h (placeIn h a)) g (placeIn h g) found b (same b ∙ c) ∙ sym (place-known h g (placeIn h g) refl b c)
     go true k true c u r =
-        let b = ltb-true (findKey l g) (used l) k in
-        place-full (raised l (findKey l a)) g (findKey l g) found b (ap (λ (n : ℕ). countFull (n + 1)) (count b) ∙ c)
-        ∙ sym (place-full l g (findKey l g) refl b c)
+        let b = ltb-true (placeIn h g) (used (h .list)) k in
+        place-full (raised 1 0 h (placeIn h a)) g (placeIn h g) found b (same b ∙ c) ∙ sym (place-full h g (placeIn h g) refl b c)
     go false k t c true r =
-        let b = ltb-false (findKey l g) (used l) k in
-        let v = ltb-true (used l) (capacity l) r in
-        place-new (raised l (findKey l a)) g (findKey l g) found b v ∙ sym (place-new l g (findKey l g) refl b v)
+        let b = ltb-false (placeIn h g) (used (h .list)) k in
+        let v = ltb-true (used (h .list)) (capacity (h .list)) r in
+        place-new (raised 1 0 h (placeIn h a)) g (placeIn h g) found b v ∙ sym (place-new h g (placeIn h g) refl b v)
     go false k t c false r =
-        let b = ltb-false (findKey l g) (used l) k in
-        let v = ltb-false (used l) (capacity l) r in
-        no-place (raised l (findKey l a)) g (findKey l g) found b v ∙ sym (no-place l g (findKey l g) refl b v)
+        let b = ltb-false (placeIn h g) (used (h .list)) k in
+        let v = ltb-false (used (h .list)) (capacity (h .list)) r in
+        no-place (raised 1 0 h (placeIn h a)) g (placeIn h g) found b v ∙ sym (no-place h g (placeIn h g) refl b v)
 
-appended-place : (l : U32List) (a g : U32TableEntry) → Shaped l → used l < capacity l → admitted a .opcode ≢ g .opcode
-    → placeAs (placeReason (appended l a) g) (appended l a) g ≡ secondPlace (l .sizes) (New a) (placeAs (placeReason l g) l g)
-appended-place l a g s room d =
-    go (ltb (findKey l g) (used l)) refl (countFull (multiplicityAt l (findKey l g) + 1)) refl (ltb (used l + 1) (capacity l)) refl
+appended-place : (h : HeldList) (a g : U32TableEntry) → HeldShaped h → used (h .list) < capacity (h .list) → admitted a .opcode ≢ g .opcode
+    → placeAs (placeReason (appended 1 0 h a) g) (appended 1 0 h a) g ≡ secondPlace (h .list .sizes) (New a) (placeAs (placeReason h g) h g)
+appended-place h a g s room d =
+    go (ltb (placeIn h g) (used (h .list))) refl (full h (placeIn h g)) refl (ltb (used (h .list) + 1) (capacity (h .list))) refl
   where
-    count : findKey l g < used l → multiplicityAt (appended l a) (findKey l g) ≡ multiplicityAt l (findKey l g)
-    count k = appended-count l a (findKey l g) k
+    same : placeIn h g < used (h .list) → full (appended 1 0 h a) (placeIn h g) ≡ full h (placeIn h g)
+    same k = same-full h (appended 1 0 h a) (placeIn h g) (appended-count 1 0 h a (placeIn h g) k) (appended-hold 1 0 h a (placeIn h g) k)
 
-    ends : used l ≤ findKey l g → findKey (appended l a) g ≡ used l + 1
+    ends : used (h .list) ≤ placeIn h g → placeIn (appended 1 0 h a) g ≡ used (h .list) + 1
     ends k =
-        appended-unknown l a g (omega (arith, find-within l g))
-        (other-key (entryAt (appended l a) (used l)) g (λ q. d (sym (ap (λ (x : U32TableEntry). x .opcode) (new-entry l a s room)) ∙ q)))
+        appended-unknown 1 0 h a g (omega (arith, find-within (h .list) g))
+        (other-key (entryAt (appended 1 0 h a .list) (used (h .list))) g
+        (λ q. d (sym (ap (λ (x : U32TableEntry). x .opcode) (new-entry 1 0 h a (s .list) room)) ∙ q)))
 
-    go : (t : Bool) → ltb (findKey l g) (used l) ≡ t → (c : Bool) → countFull (multiplicityAt l (findKey l g) + 1) ≡ c
-        → (u : Bool) → ltb (used l + 1) (capacity l) ≡ u
-        → placeAs (placeReason (appended l a) g) (appended l a) g ≡ secondPlace (l .sizes) (New a) (placeAs (placeReason l g) l g)
+    go : (t : Bool) → ltb (placeIn h g) (used (h .list)) ≡ t → (c : Bool) → full h (placeIn h g) ≡ c
+        → (u : Bool) → ltb (used (h .list) + 1) (capacity (h .list)) ≡ u
+        → placeAs (placeReason (appended 1 0 h a) g) (appended 1 0 h a) g ≡ secondPlace (h .list .sizes) (New a) (placeAs (placeReason h g) h g)
     go true k false c u r =
-        let b = ltb-true (findKey l g) (used l) k in
-        place-known (appended l a) g (findKey l g) (sym (appended-known l a g b)) (omega arith) (ap (λ (n : ℕ). countFull (n + 1)) (count b) ∙ c)
-        ∙ ap (secondPlace (l .sizes) (New a)) (sym (place-known l g (findKey l g) refl b c))
+        let b = ltb-true (placeIn h g) (used (h .list)) k in
+        place-known (appended 1 0 h a) g (placeIn h g) (sym (appended-known 1 0 h a g b)) (omega arith) (same b ∙ c)
+        ∙ ap (secondPlace (h .list .sizes) (New a)) (sym (place-known h g (placeIn h g) refl b c))
     go true k true c u r =
-        let b = ltb-true (findKey l g) (used l) k in
-        place-full (appended l a) g (findKey l g) (sym (appended-known l a g b)) (omega arith) (ap (λ (n : ℕ). countFull (n + 1)) (count b) ∙ c)
-        ∙ ap (secondPlace (l .sizes) (New a)) (sym (place-full l g (findKey l g) refl b c))
+        let b = ltb-true (placeIn h g) (used (h .list)) k in
+        place-full (appended 1 0 h a) g (placeIn h g) (sym (appended-known 1 0 h a g b)) (omega arith) (same b ∙ c)
+        ∙ ap (secondPlace (h .list .sizes) (New a)) (sym (place-full h g (placeIn h g) refl b c))
     go false k t c true r =
-        let b = ltb-false (findKey l g) (used l) k in
-        let two : secondPlace (l .sizes) (New a) (New g) ≡ New g = rw r in
-        place-new (appended l a) g (used l + 1) (sym (ends b)) (omega arith) (ltb-true (used l + 1) (capacity l) r)
-        ∙ sym two ∙ ap (secondPlace (l .sizes) (New a)) (sym (place-new l g (findKey l g) refl b room))
+        let b = ltb-false (placeIn h g) (used (h .list)) k in
+        let two : secondPlace (h .list .sizes) (New a) (New g) ≡ New g = rw r in
+        place-new (appended 1 0 h a) g (used (h .list) + 1) (sym (ends b)) (omega arith) (ltb-true (used (h .list) + 1) (capacity (h .list)) r)
+        ∙ sym two ∙ ap (secondPlace (h .list .sizes) (New a)) (sym (place-new h g (placeIn h g) refl b room))
     go false k t c false r =
-        let b = ltb-false (findKey l g) (used l) k in
-        let one : secondPlace (l .sizes) (New a) (New g) ≡ Refused ListFull = rw r in
-        no-place (appended l a) g (used l + 1) (sym (ends b)) (omega arith) (ltb-false (used l + 1) (capacity l) r)
-        ∙ sym one ∙ ap (secondPlace (l .sizes) (New a)) (sym (place-new l g (findKey l g) refl b room))
+        let b = ltb-false (placeIn h g) (used (h .list)) k in
+        let one : secondPlace (h .list .sizes) (New a) (New g) ≡ Refused ListFull = rw r in
+        no-place (appended 1 0 h a) g (used (h .list) + 1) (sym (ends b)) (omega arith) (ltb-false (used (h .list) + 1) (capacity (h .list)) r)
+        ∙ sym one ∙ ap (secondPlace (h .list .sizes) (New a)) (sym (place-new h g (placeIn h g) refl b room))
 
 -- ---- the place of any entry
 
@@ -121,22 +131,22 @@ second-refused-stays s (New e) k = refl
 second-refused-stays s (Refused r) k = refl
 
 -- a reason of the shape or of the entry stays; else the place of the admitted entry decides
-after-first : (l m : U32List) (first : Place) (f : U32TableEntry) → listShape m ≡ listShape l
-    → (listShape l ≡ Fine
-    → placeAs (placeReason m (admitted f)) m (admitted f) ≡ secondPlace (l .sizes) first (placeAs (placeReason l (admitted f)) l (admitted f)))
-    → placeOf m f ≡ secondPlace (l .sizes) first (placeOf l f)
-after-first l m first f same rest = go (listShape l) refl (judgeEntry f) refl where
-  go : (j : Judgement) → listShape l ≡ j → (i : Judgement) → judgeEntry f ≡ i → placeOf m f ≡ secondPlace (l .sizes) first (placeOf l f)
+after-first : (l m : HeldList) (first : Place) (f : U32TableEntry) → heldShape m ≡ heldShape l
+    → (heldShape l ≡ Fine
+    → placeAs (placeReason m (admitted f)) m (admitted f) ≡ secondPlace (l .list .sizes) first (placeAs (placeReason l (admitted f)) l (admitted f)))
+    → placeOf m f ≡ secondPlace (l .list .sizes) first (placeOf l f)
+after-first l m first f same rest = go (heldShape l) refl (judgeEntry f) refl where
+  go : (j : Judgement) → heldShape l ≡ j → (i : Judgement) → judgeEntry f ≡ i → placeOf m f ≡ secondPlace (l .list .sizes) first (placeOf l f)
   go (Declined k) q i r =
-      shape-declined m f (same ∙ q) ∙ sym (second-refused-stays (l .sizes) first k) ∙ ap (secondPlace (l .sizes) first) (sym (shape-declined l f q))
+      shape-declined m f (same ∙ q) ∙ sym (second-refused-stays (l .list .sizes) first k) ∙ ap (secondPlace (l .list .sizes) first) (sym (shape-declined l f q))
   go Fine q (Declined k) r =
-      entry-declined m f (same ∙ q) r ∙ sym (second-refused-stays (l .sizes) first k)
-      ∙ ap (secondPlace (l .sizes) first) (sym (entry-declined l f q r))
+      entry-declined m f (same ∙ q) r ∙ sym (second-refused-stays (l .list .sizes) first k)
+      ∙ ap (secondPlace (l .list .sizes) first) (sym (entry-declined l f q r))
   go Fine q Fine r =
-      place-admitted m f (same ∙ q) r ∙ rest q ∙ ap (secondPlace (l .sizes) first) (sym (place-admitted l f q r))
+      place-admitted m f (same ∙ q) r ∙ rest q ∙ ap (secondPlace (l .list .sizes) first) (sym (place-admitted l f q r))
 
-pub both-places : (l : U32List) (e f : U32TableEntry) → e .opcode ≢ f .opcode
-    → placeOf (recordAll l e .left) f ≡ secondPlace (l .sizes) (placeOf l e) (placeOf l f)
+pub both-places : (l : HeldList) (e f : U32TableEntry) → e .opcode ≢ f .opcode
+    → placeOf (recordAll l e .left) f ≡ secondPlace (l .list .sizes) (placeOf l e) (placeOf l f)
 unfolding placeOf
 both-places l e f d = go (recordReason l e) refl where
   apart : admitted e .opcode ≢ admitted f .opcode
@@ -146,42 +156,42 @@ both-places l e f d = go (recordReason l e) refl where
   apart-again q = apart (sym (opcode-admitted (admitted e)) ∙ q)
 
   Says : Place → Type 0
-  Says p = placeOf (recordAll l e .left) f ≡ secondPlace (l .sizes) p (placeOf l f)
+  Says p = placeOf (recordAll l e .left) f ≡ secondPlace (l .list .sizes) p (placeOf l f)
 
-  leaves : {p : Place} → placeOf l e ≡ p → recordAll l e .left ≡ storedAt l p .left
-  leaves q = ap (λ (o : Outcome U32List). o .left) (recorded-at l e) ∙ ap (λ (p : Place). storedAt l p .left) q
+  leaves : {p : Place} → placeOf l e ≡ p → recordAll l e .left ≡ storedAt 1 0 l p .left
+  leaves q = ap (λ (o : Outcome HeldList). o .left) (recorded-at 1 0 l e) ∙ ap (λ (p : Place). storedAt 1 0 l p .left) q
 
   stored : (p : Place) → placeOf l e ≡ p
-      → (listShape l ≡ Fine → placeAs (placeReason (storedAt l p .left) (admitted f)) (storedAt l p .left) (admitted f)
-      ≡ secondPlace (l .sizes) p (placeAs (placeReason l (admitted f)) l (admitted f)))
+      → (heldShape l ≡ Fine → placeAs (placeReason (storedAt 1 0 l p .left) (admitted f)) (storedAt 1 0 l p .left) (admitted f)
+      ≡ secondPlace (l .list .sizes) p (placeAs (placeReason l (admitted f)) l (admitted f)))
       → Says p
   stored p q h =
-      ap (λ (m : U32List). placeOf m f) (leaves q)
-      ∙ after-first l (storedAt l p .left) p f (ap listShape (sym (leaves q)) ∙ record-keeps-shape l e) h
+      ap (λ (m : HeldList). placeOf m f) (leaves q)
+      ∙ after-first l (storedAt 1 0 l p .left) p f (ap heldShape (sym (leaves q)) ∙ record-keeps-shape 1 0 l e) h
 
-  room : Shaped l → Fits l (New (admitted e)) → used l < capacity l
-  room s fits = omega (arith, s .multiplicities, fits .1)
+  room : HeldShaped l → Fits l (New (admitted e)) → used (l .list) < capacity (l .list)
+  room s fits = omega (arith, s .list .multiplicities, fits .1)
 
   either : (t : Bool) → known l (admitted e) ≡ t → placeOf l e ≡ placeAs Fine l (admitted e) → Says (placeAs Fine l (admitted e))
   either true k q =
-      let p : placeAs Fine l (admitted e) ≡ Known (findKey l (admitted e)) = rw k in
-      rw p (stored (Known (findKey l (admitted e))) (q ∙ p)
-      (λ s. raised-place l (admitted e) (admitted f) apart (ltb-true (findKey l (admitted e)) (used l) k)))
+      let p : placeAs Fine l (admitted e) ≡ Known (placeIn l (admitted e)) = rw k in
+      rw p (stored (Known (placeIn l (admitted e))) (q ∙ p)
+      (λ s. raised-place l (admitted e) (admitted f) apart (ltb-true (placeIn l (admitted e)) (used (l .list)) k)))
   either false k q =
       let p : placeAs Fine l (admitted e) ≡ New (admitted e) = rw k in
       let fits : Fits l (New (admitted e)) = rw (q ∙ p) at (place-fits l e) in
       rw p (stored (New (admitted e)) (q ∙ p)
-      (λ s. appended-place l (admitted e) (admitted f) (shaped l s) (room (shaped l s) fits) apart-again))
+      (λ s. appended-place l (admitted e) (admitted f) (held-shaped l s) (room (held-shaped l s) fits) apart-again))
 
   go : (j : Judgement) → recordReason l e ≡ j → Says (placeAs (recordReason l e) l (admitted e))
   go Fine q = rw q (either (known l (admitted e)) refl (rw q))
   go (Declined k) q =
       let p : placeOf l e ≡ Refused k = rw q in
-      rw q (ap (λ (m : U32List). placeOf m f) (leaves p))
+      rw q (ap (λ (m : HeldList). placeOf m f) (leaves p))
 
 -- ---- both recorded, by the two places
 
-stored-number : (l : U32List) (p : Place) → reasonAt p ≡ Fine → numberOf (storedAt l p) ≡ 0
+stored-number : (l : HeldList) (p : Place) → reasonAt p ≡ Fine → numberOf (storedAt 1 0 l p) ≡ 0
 stored-number l (Known i) q = refl
 stored-number l (New e) q = refl
 stored-number l (Refused k) q = absurd (let z : _≡_ {A = ℕ} 0 1 = cc in omega arith)
@@ -191,17 +201,17 @@ refused-at (Known i) q = absurd (let z : _≡_ {A = ℕ} 0 1 = cc in omega arith
 refused-at (New e) q = absurd (let z : _≡_ {A = ℕ} 0 1 = cc in omega arith)
 refused-at (Refused r) q = cc
 
-module _ (l : U32List) (e f : U32TableEntry) (first : Place) (at : first ≡ placeOf l e) where
-  first-stored : recordAll l e ≡ storedAt l first
-  first-stored = recorded-at l e ∙ ap (storedAt l) (sym at)
+module _ (l : HeldList) (e f : U32TableEntry) (first : Place) (at : first ≡ placeOf l e) where
+  first-stored : recordAll l e ≡ storedAt 1 0 l first
+  first-stored = recorded-at 1 0 l e ∙ ap (storedAt 1 0 l) (sym at)
 
   pub first-refused : {k : Refusal} → reasonAt first ≡ Declined k → Leaves (recordTogether l (e ∷ f ∷ [])) (declined k) l
   first-refused {k} r =
-      let answer : recordAll l e .answer ≡ declined k = ap (λ (o : Outcome U32List). o .answer) (first-stored ∙ ap (storedAt l) (refused-at first r)) in
+      let answer : recordAll l e .answer ≡ declined k = ap (λ (o : Outcome HeldList). o .answer) (first-stored ∙ ap (storedAt 1 0 l) (refused-at first r)) in
       let not-done : numberOf (recordAll l e) ≢ 0 = λ z. declined-positive k (sym (ap (λ (a : Answer). a .number) answer) ∙ z) in
-      together-refused l (e ∷ f ∷ []) k (ap (λ (o : Outcome U32List). o .answer) (each-refused l e (f ∷ []) not-done) ∙ answer)
+      together-refused l (e ∷ f ∷ []) k (ap (λ (o : Outcome HeldList). o .answer) (each-refused l e (f ∷ []) not-done) ∙ answer)
 
-  module _ (differ : e .opcode ≢ f .opcode) (ahead second : Place) (found : ahead ≡ placeOf l f) (is : second ≡ secondPlace (l .sizes) first ahead)
+  module _ (differ : e .opcode ≢ f .opcode) (ahead second : Place) (found : ahead ≡ placeOf l f) (is : second ≡ secondPlace (l .list .sizes) first ahead)
       (fine : reasonAt first ≡ Fine) where
     second-place : second ≡ placeOf (recordAll l e .left) f
     second-place = is ∙ rw (at, found) (sym (both-places l e f differ))
@@ -209,31 +219,31 @@ module _ (l : U32List) (e f : U32TableEntry) (first : Place) (at : first ≡ pla
     first-done : numberOf (recordAll l e) ≡ 0
     first-done = ap numberOf first-stored ∙ stored-number l first fine
 
-    second-stored : recordAll (recordAll l e .left) f ≡ storedAt (recordAll l e .left) second
-    second-stored = recorded-at (recordAll l e .left) f ∙ ap (storedAt (recordAll l e .left)) (sym second-place)
+    second-stored : recordAll (recordAll l e .left) f ≡ storedAt 1 0 (recordAll l e .left) second
+    second-stored = recorded-at 1 0 (recordAll l e .left) f ∙ ap (storedAt 1 0 (recordAll l e .left)) (sym second-place)
 
     pub second-refused : {k : Refusal} → reasonAt second ≡ Declined k → Leaves (recordTogether l (e ∷ f ∷ [])) (declined k) l
     second-refused {k} r =
         let answer : recordAll (recordAll l e .left) f .answer ≡ declined k =
-        ap (λ (o : Outcome U32List). o .answer) (second-stored ∙ ap (storedAt (recordAll l e .left)) (refused-at second r)) in
+        ap (λ (o : Outcome HeldList). o .answer) (second-stored ∙ ap (storedAt 1 0 (recordAll l e .left)) (refused-at second r)) in
         let not-done : numberOf (recordAll (recordAll l e .left) f) ≢ 0 = λ z. declined-positive k (sym (ap (λ (a : Answer). a .number) answer) ∙ z) in
         together-refused l (e ∷ f ∷ []) k
-        (ap (λ (o : Outcome U32List). o .answer)
+        (ap (λ (o : Outcome HeldList). o .answer)
         (each-accepted l e (f ∷ []) first-done ∙ each-refused (recordAll l e .left) f [] not-done)
         ∙ answer)
 
-    module _ (half : U32List) (kept : half ≡ storedAt l first .left) where
+    module _ (half : HeldList) (kept : half ≡ storedAt 1 0 l first .left) where
       half-is : half ≡ recordAll l e .left
-      half-is = kept ∙ ap (λ (o : Outcome U32List). o .left) (sym first-stored)
+      half-is = kept ∙ ap (λ (o : Outcome HeldList). o .left) (sym first-stored)
 
       pub second-fits : Fits half second
       second-fits = rw (half-is, second-place) (place-fits (recordAll l e .left) f)
 
-      pub both-stored : {answer : Answer} {after : U32List} → reasonAt second ≡ Fine → Leaves (storedAt half second) answer after
+      pub both-stored : {answer : Answer} {after : HeldList} → reasonAt second ≡ Fine → Leaves (storedAt 1 0 half second) answer after
           → Leaves (recordTogether l (e ∷ f ∷ [])) (done []) after
       both-stored {answer} {after} r h =
           let second-done : numberOf (recordAll (recordAll l e .left) f) ≡ 0 = ap numberOf second-stored ∙ stored-number (recordAll l e .left) second r in
           let whole : after ≡ recordAll (recordAll l e .left) f .left =
-          h .left ∙ ap (λ (m : U32List). storedAt m second .left) half-is ∙ ap (λ (o : Outcome U32List). o .left) (sym second-stored) in
+          h .left ∙ ap (λ (m : HeldList). storedAt 1 0 m second .left) half-is ∙ ap (λ (o : Outcome HeldList). o .left) (sym second-stored) in
           together-done l (e ∷ f ∷ []) (recordAll (recordAll l e .left) f .left)
           (each-accepted l e (f ∷ []) first-done ∙ each-accepted (recordAll l e .left) f [] second-done) whole

@@ -25,7 +25,7 @@ use Rattle.isa.specs.declared.U32TableEntry.{U32TableEntry}
 use Rattle.isa.specs.Opcodes.{opSplit, opLt, opDivMod, opMerkleStep, opMerkleStepMem, isOpcode}
 use Rattle.isa.specs.Entries.{entry, rhsLimit, judgeEntry}
 use Rattle.isa.proofs.Entries.{Admissible, admissible-fine}
-use Rattle.list.specs.Lists.{U32List, listShape}
+use Rattle.list.specs.Holds.{HeldList, heldShape}
 use Rattle.list_record.specs.Recording.{recordAll, recordEach}
 use Rattle.list_record.proofs.RecordEach.{numberOf, each-done, each-append}
 use Rattle.list_replay.specs.declared.StepEntries.{StepEntries}
@@ -36,34 +36,34 @@ use Rattle.list_replay.proofs.Walks.{declined-positive, together-each, 
 
 -- ---- nothing speaks against the list and the trace
 
-pub record Whole (l : U32List) (trace : List ℕ) : Type 0 where
-  pub list : listShape l ≡ Fine
+pub record Whole (l : HeldList) (trace : List ℕ) : Type 0 where
+  pub list : heldShape l ≡ Fine
   pub steps : length trace % stepWidth ≡ 0
 
-pub whole : (l : U32List) (trace : List ℕ) → replayReason l trace ≡ Fine → Whole l trace
+pub whole : (l : HeldList) (trace : List ℕ) → replayReason l trace ≡ Fine → Whole l trace
 unfolding replayReason
 whole l trace q =
-    let a = or-both (listShape l) _ q in
+    let a = or-both (heldShape l) _ q in
     record { list = a .0; steps = eqb-true _ _ (decline-not-fine (eqb (length trace % stepWidth) 0) Shape (a .1)) }
 
 -- ---- the first k steps
 
-same-steps : (l : U32List) (s t : List ℕ) (i n : ℕ) → ((j : ℕ) → i ≤ j → j < i + n → stepAt s j ≡ stepAt t j)
+same-steps : (l : HeldList) (s t : List ℕ) (i n : ℕ) → ((j : ℕ) → i ≤ j → j < i + n → stepAt s j ≡ stepAt t j)
     → replayFrom l s i n ≡ replayFrom l t i n
 unfolding replayFrom
 same-steps l s t i zero f = refl
 same-steps l s t i (suc n) f =
     rw (f i (omega arith) (omega arith), same-steps (stepAll l (stepAt t i) .left) s t (suc i) n (λ j a b. f j (omega arith) (omega arith)))
 
-pub record Prefix (l : U32List) (trace : List ℕ) (i n k : ℕ) : Type 0 where
+pub record Prefix (l : HeldList) (trace : List ℕ) (i n k : ℕ) : Type 0 where
   pub from : i ≤ k
   pub within : k ≤ i + n
   pub walk : replayFrom l trace i (k - i) ≡ stoppedAt 0 k (replayFrom l trace i n .left)
 
-steps-done : {k i : ℕ} {a : Outcome U32List} (number : ℕ) (l : U32List) → a ≡ stoppedAt number i l → a .answer .values ≡ k ∷ [] → k ≡ i
-steps-done number l q e = let w = sym (ap (λ (o : Outcome U32List). o .answer .values) q) ∙ e in cc
+steps-done : {k i : ℕ} {a : Outcome HeldList} (number : ℕ) (l : HeldList) → a ≡ stoppedAt number i l → a .answer .values ≡ k ∷ [] → k ≡ i
+steps-done number l q e = let w = sym (ap (λ (o : Outcome HeldList). o .answer .values) q) ∙ e in cc
 
-stopped-here : (l : U32List) (trace : List ℕ) (i n k number : ℕ) → replayFrom l trace i n ≡ stoppedAt number i l
+stopped-here : (l : HeldList) (trace : List ℕ) (i n k number : ℕ) → replayFrom l trace i n ≡ stoppedAt number i l
     → replayFrom l trace i n .answer .values ≡ k ∷ [] → Prefix l trace i n k
 unfolding replayFrom
 stopped-here l trace i n k number q e =
@@ -74,13 +74,13 @@ stopped-here l trace i n k number q e =
       walk = let none : k - i ≡ 0 = omega arith in rw (none, same, q);
     }
 
-walk-prefix : (l : U32List) (trace : List ℕ) (i n k : ℕ) → replayFrom l trace i n .answer .values ≡ k ∷ [] → Prefix l trace i n k
+walk-prefix : (l : HeldList) (trace : List ℕ) (i n k : ℕ) → replayFrom l trace i n .answer .values ≡ k ∷ [] → Prefix l trace i n k
 unfolding replayFrom
 walk-prefix l trace i zero k e = stopped-here l trace i zero k 0 refl e
 walk-prefix l trace i (suc n) k e =
     go (walk-prefix (stepAll l (stepAt trace i) .left) trace (suc i) n k) (eqb (numberOf (stepAll l (stepAt trace i))) 0) refl
   where
-    next : U32List
+    next : HeldList
     next = stepAll l (stepAt trace i) .left
 
     go : (replayFrom (stepAll l (stepAt trace i) .left) trace (suc i) n .answer .values ≡ k ∷ []
@@ -89,26 +89,26 @@ walk-prefix l trace i (suc n) k e =
     go rest true q =
         let z = eqb-true _ _ q in
         let step = from-accepted l trace i n z in
-        let r = rest (sym (ap (λ (o : Outcome U32List). o .answer .values) step) ∙ e) in
+        let r = rest (sym (ap (λ (o : Outcome HeldList). o .answer .values) step) ∙ e) in
         let d : k - i ≡ suc (k - suc i) = omega (arith, r .from) in
         record {
           from = omega (arith, r .from);
           within = omega (arith, r .within);
           walk =
               ap (replayFrom l trace i) d ∙ from-accepted l trace i (k - suc i) z ∙ r .walk
-              ∙ ap (λ (o : Outcome U32List). stoppedAt 0 k (o .left)) (sym step);
+              ∙ ap (λ (o : Outcome HeldList). stoppedAt 0 k (o .left)) (sym step);
         }
     go rest false q = stopped-here l trace i (suc n) k (numberOf (stepAll l (stepAt trace i))) (from-refused l trace i n (eqb-false _ _ q)) e
 
 -- "with the list as the steps before it made it, and returns .. how many were done"
-pub replay-prefix : (l : U32List) (trace : List ℕ) (k : ℕ) → replayReason l trace ≡ Fine → replayAll l trace .answer .values ≡ k ∷ []
+pub replay-prefix : (l : HeldList) (trace : List ℕ) (k : ℕ) → replayReason l trace ≡ Fine → replayAll l trace .answer .values ≡ k ∷ []
     → replayAll l (take (stepWidth * k) trace) ≡ stoppedAt 0 k (replayAll l trace .left)
 unfolding stepAt
 replay-prefix l trace k fine e =
     let w = whole l trace fine in
     let all = walks l trace (w .list) (w .steps) in
     let steps = length trace / stepWidth in
-    let pre = walk-prefix l trace 0 steps k (sym (ap (λ (o : Outcome U32List). o .answer .values) all) ∙ e) in
+    let pre = walk-prefix l trace 0 steps k (sym (ap (λ (o : Outcome HeldList). o .answer .values) all) ∙ e) in
     let long : stepWidth * k ≤ length trace = omega (arith, pre .within) in
     let cut : length (take (stepWidth * k) trace) ≡ stepWidth * k = length-take-le (stepWidth * k) trace long in
     let count : length (take (stepWidth * k) trace) / stepWidth ≡ k = omega arith in
@@ -117,7 +117,7 @@ replay-prefix l trace k fine e =
     ∙ ap (replayFrom l (take (stepWidth * k) trace) 0) count
     ∙ same-steps l (take (stepWidth * k) trace) trace 0 k (λ j a b. kept j (omega arith))
     ∙ ap (replayFrom l trace 0) (sym none)
-    ∙ pre .walk ∙ ap (λ (o : Outcome U32List). stoppedAt 0 k (o .left)) (sym all)
+    ∙ pre .walk ∙ ap (λ (o : Outcome HeldList). stoppedAt 0 k (o .left)) (sym all)
   where
     word : (i : ℕ) → i < stepWidth * k → getD (take (stepWidth * k) trace) i 0 ≡ getD trace i 0
     word i h = getD-take (stepWidth * k) trace i 0 h
@@ -127,7 +127,7 @@ replay-prefix l trace k fine e =
 
 -- ---- an accepted replay
 
-step-records : (l : U32List) (s : Step) → numberOf (stepAll l s) ≡ 0 → recordEach l (entriesOf (stepEntries s)) ≡ stepAll l s
+pub step-records : (l : HeldList) (s : Step) → numberOf (stepAll l s) ≡ 0 → recordEach l (entriesOf (stepEntries s)) ≡ stepAll l s
 unfolding stepAll
 step-records l s z = go (stepEntries s) z where
   go : (es : StepEntries) → numberOf (stepAs l es) ≡ 0 → recordEach l (entriesOf es) ≡ stepAs l es
@@ -135,7 +135,7 @@ step-records l s z = go (stepEntries s) z where
   go (Two e f) z = sym (together-each l (e ∷ f ∷ []) (sym (together-number l (e ∷ f ∷ [])) ∙ z))
   go (Refused k) z = absurd (declined-positive k z)
 
-walk-records : (l : U32List) (trace : List ℕ) (i n : ℕ) → numberOf (replayFrom l trace i n) ≡ 0
+walk-records : (l : HeldList) (trace : List ℕ) (i n : ℕ) → numberOf (replayFrom l trace i n) ≡ 0
     → recordEach l (entriesFrom trace i n) ≡ record { answer = done []; left = replayFrom l trace i n .left }
 unfolding entriesFrom recordEach replayFrom
 walk-records l trace i zero z = refl
@@ -153,12 +153,12 @@ walk-records l trace i (suc n) z =
         let step = step-records l (stepAt trace i) a in
         let on = from-accepted l trace i n a in
         each-append l (entriesOf (stepEntries (stepAt trace i))) (entriesFrom trace (suc i) n) (ap numberOf step ∙ a)
-        ∙ ap (λ (o : Outcome U32List). recordEach (o .left) (entriesFrom trace (suc i) n)) step
+        ∙ ap (λ (o : Outcome HeldList). recordEach (o .left) (entriesFrom trace (suc i) n)) step
         ∙ rest (sym (ap numberOf on) ∙ z)
-        ∙ ap (λ (o : Outcome U32List). record { answer = done []; left = o .left }) (sym on)
+        ∙ ap (λ (o : Outcome HeldList). record { answer = done []; left = o .left }) (sym on)
     go rest false q = let n0 = eqb-false _ _ q in absurd (n0 (sym (ap numberOf (from-refused l trace i n n0)) ∙ z))
 
-pub replay-walks : (l : U32List) (trace : List ℕ) → numberOf (replayAll l trace) ≡ 0
+pub replay-walks : (l : HeldList) (trace : List ℕ) → numberOf (replayAll l trace) ≡ 0
     → replayAll l trace ≡ replayFrom l trace 0 (length trace / stepWidth)
 unfolding replayAll
 replay-walks l trace z = go (replayReason l trace) z where
@@ -166,12 +166,12 @@ replay-walks l trace z = go (replayReason l trace) z where
   go Fine z = refl
   go (Declined k) z = absurd (declined-positive k z)
 
-pub replay-records : (l : U32List) (trace : List ℕ) → numberOf (replayAll l trace) ≡ 0
+pub replay-records : (l : HeldList) (trace : List ℕ) → numberOf (replayAll l trace) ≡ 0
     → recordEach l (traceEntries trace) ≡ record { answer = done []; left = replayAll l trace .left }
 replay-records l trace z =
     let all = replay-walks l trace z in
     walk-records l trace 0 (length trace / stepWidth) (sym (ap numberOf all) ∙ z)
-    ∙ ap (λ (o : Outcome U32List). record { answer = done []; left = o .left }) (sym all)
+    ∙ ap (λ (o : Outcome HeldList). record { answer = done []; left = o .left }) (sym all)
 
 -- ---- what split, div_mod and the Merkle steps record is admitted
 

@@ -24,7 +24,7 @@ use Rattle.words.proofs.Answers.{number-positive}
 use Rattle.isa.specs.declared.U32TableEntry.{U32TableEntry}
 use Rattle.isa.specs.Opcodes.{opSplit, opLt, opLog2Floor, opAnd, opPopCount, opPow, opDivMod, opXor, opMerkleStep, opMerkleStepMem}
 use Rattle.isa.specs.Entries.{entry, rhsLimit}
-use Rattle.list.specs.Lists.{U32List, listShape}
+use Rattle.list.specs.Holds.{HeldList, heldShape}
 use Rattle.list_record.specs.declared.Recorded.{Recorded}
 use Rattle.list_record.specs.declared.Recorded.the-variants.{At, Refused as NotRecorded}
 use Rattle.list_record.specs.Recording.{recordAll, recordEach, recordedAnswer}
@@ -40,7 +40,7 @@ declined-positive k z = omega (arith, number-positive k)
 
 -- ---- entries recorded together
 
-module _ (l : U32List) (es : List U32TableEntry) where
+module _ (l : HeldList) (es : List U32TableEntry) where
   pub together-each : numberOf (recordEach l es) ≡ 0 → recordTogether l es ≡ recordEach l es
   unfolding recordTogether
   together-each z = rw (eq-eqb (numberOf (recordEach l es)) 0 z)
@@ -53,7 +53,7 @@ module _ (l : U32List) (es : List U32TableEntry) where
   unfolding recordTogether
   together-left n = rw (ne-eqb (numberOf (recordEach l es)) 0 n)
 
-  pub together-done : (rest : U32List) {after : U32List} → recordEach l es ≡ recordEach rest [] → after ≡ rest
+  pub together-done : (rest : HeldList) {after : HeldList} → recordEach l es ≡ recordEach rest [] → after ≡ rest
       → Leaves (recordTogether l es) (done []) after
   unfolding recordEach
   together-done rest q e =
@@ -68,7 +68,7 @@ module _ (l : U32List) (es : List U32TableEntry) where
 
 -- ---- one entry
 
-module _ (l : U32List) (e : U32TableEntry) {a : Recorded} {after : U32List} (made : Leaves (recordAll l e) (recordedAnswer a) after) where
+module _ (l : HeldList) (e : U32TableEntry) {a : Recorded} {after : HeldList} (made : Leaves (recordAll l e) (recordedAnswer a) after) where
   pub one-done : {i : ℕ} → a ≡ At i → Leaves (recordTogether l (e ∷ [])) (done []) after
   one-done q =
       let z : numberOf (recordAll l e) ≡ 0 = ap (λ (x : Answer). x .number) (sym (made .answer) ∙ ap recordedAnswer q) in
@@ -79,15 +79,15 @@ module _ (l : U32List) (e : U32TableEntry) {a : Recorded} {after : U32List} (mad
       let answer : recordAll l e .answer ≡ declined k = sym (made .answer) ∙ ap recordedAnswer q in
       let n : numberOf (recordAll l e) ≢ 0 = λ z. declined-positive k (sym (ap (λ (x : Answer). x .number) answer) ∙ z) in
       let kept : after ≡ l = made .left ∙ refused-left l e n in
-      rw kept (together-refused l (e ∷ []) k (ap (λ (o : Outcome U32List). o .answer) (each-refused l e [] n) ∙ answer))
+      rw kept (together-refused l (e ∷ []) k (ap (λ (o : Outcome HeldList). o .answer) (each-refused l e [] n) ∙ answer))
 
 -- ---- a step
 
-pub step-as : (l : U32List) (s : Step) {es : StepEntries} → stepEntries s ≡ es → stepAll l s ≡ stepAs l es
+pub step-as : (l : HeldList) (s : Step) {es : StepEntries} → stepEntries s ≡ es → stepAll l s ≡ stepAs l es
 unfolding stepAll
 step-as l s q = rw q
 
-pub step-left : (l : U32List) (s : Step) → numberOf (stepAll l s) ≢ 0 → stepAll l s .left ≡ l
+pub step-left : (l : HeldList) (s : Step) → numberOf (stepAll l s) ≢ 0 → stepAll l s .left ≡ l
 unfolding stepAll
 step-left l s n = go (stepEntries s) n where
   go : (es : StepEntries) → numberOf (stepAs l es) ≢ 0 → stepAs l es .left ≡ l
@@ -147,7 +147,7 @@ two-differ s q =
 
 -- ---- a walk
 
-module _ (l : U32List) (trace : List ℕ) where
+module _ (l : HeldList) (trace : List ℕ) where
   pub from-accepted : (i n : ℕ) → numberOf (stepAll l (stepAt trace i)) ≡ 0
       → replayFrom l trace i (suc n) ≡ replayFrom (stepAll l (stepAt trace i) .left) trace (suc i) n
   unfolding replayFrom
@@ -174,29 +174,29 @@ module _ (l : U32List) (trace : List ℕ) where
 
   -- ---- a replay
 
-  pub shape-stops : {k : Refusal} → listShape l ≡ Declined k → replayAll l trace ≡ stoppedAt (refusalNumber k) 0 l
+  pub shape-stops : {k : Refusal} → heldShape l ≡ Declined k → replayAll l trace ≡ stoppedAt (refusalNumber k) 0 l
   unfolding replayAll replayReason
   shape-stops q = rw q
 
-  pub torn-stops : listShape l ≡ Fine → length trace % stepWidth ≢ 0 → replayAll l trace ≡ stoppedAt 1 0 l
+  pub torn-stops : heldShape l ≡ Fine → length trace % stepWidth ≢ 0 → replayAll l trace ≡ stoppedAt 1 0 l
   unfolding replayAll replayReason
   torn-stops q n = rw (q, ne-eqb (length trace % stepWidth) 0 n)
 
-  pub walks : listShape l ≡ Fine → length trace % stepWidth ≡ 0 → replayAll l trace ≡ replayFrom l trace 0 (length trace / stepWidth)
+  pub walks : heldShape l ≡ Fine → length trace % stepWidth ≡ 0 → replayAll l trace ≡ replayFrom l trace 0 (length trace / stepWidth)
   unfolding replayAll replayReason
   walks q z = rw (q, eq-eqb (length trace % stepWidth) 0 z)
 
 -- ---- a turn of the loop that walks: l₀ is the list as it was lent, l the list at step i
 
-module _ (l₀ : U32List) (trace : List ℕ) (n : ℕ) (l : U32List) (i : ℕ) where
-  pub walk-goes-on : {a : Completed} {after : U32List} → i < n → replayFrom l₀ trace 0 n ≡ replayFrom l trace i (n - i)
+module _ (l₀ : HeldList) (trace : List ℕ) (n : ℕ) (l : HeldList) (i : ℕ) where
+  pub walk-goes-on : {a : Completed} {after : HeldList} → i < n → replayFrom l₀ trace 0 n ≡ replayFrom l trace i (n - i)
       → Leaves (stepAll l (stepAt trace i)) (completedAnswer a) after → a ≡ AllDone
       → replayFrom l₀ trace 0 n ≡ replayFrom after trace (i + 1) (n - (i + 1))
   walk-goes-on h reached made q =
       let z : numberOf (stepAll l (stepAt trace i)) ≡ 0 = ap (λ (x : Answer). x .number) (sym (made .answer) ∙ ap completedAnswer q) in
-      reached ∙ walk-on l trace i n h z ∙ ap (λ (m : U32List). replayFrom m trace (i + 1) (n - (i + 1))) (sym (made .left))
+      reached ∙ walk-on l trace i n h z ∙ ap (λ (m : HeldList). replayFrom m trace (i + 1) (n - (i + 1))) (sym (made .left))
 
-  pub walk-stopped : {a : Completed} {k : Refusal} {after : U32List} → i < n → replayAll l₀ trace ≡ replayFrom l₀ trace 0 n
+  pub walk-stopped : {a : Completed} {k : Refusal} {after : HeldList} → i < n → replayAll l₀ trace ≡ replayFrom l₀ trace 0 n
       → replayFrom l₀ trace 0 n ≡ replayFrom l trace i (n - i) → Leaves (stepAll l (stepAt trace i)) (completedAnswer a) after → a ≡ NotDone k
       → Leaves (replayAll l₀ trace) (replayedAnswer (Stopped k i)) after
   walk-stopped {a} {k} h all reached made q =

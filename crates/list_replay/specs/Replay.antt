@@ -11,7 +11,7 @@ use Rattle.words.specs.declared.Judgement.{Judgement}
 use Rattle.words.specs.declared.Judgement.the-variants.{Fine, Declined}
 use Rattle.words.specs.declared.Refusal.the-variants.{Shape}
 use Rattle.isa.specs.declared.U32TableEntry.{U32TableEntry}
-use Rattle.list.specs.Lists.{U32List, listShape}
+use Rattle.list.specs.Holds.{HeldList, heldShape}
 use Rattle.list_record.specs.Recording.{recordEach}
 use Rattle.list_replay.specs.declared.StepEntries.{StepEntries}
 use Rattle.list_replay.specs.declared.StepEntries.the-variants.{One, Two, Refused}
@@ -20,42 +20,42 @@ use Rattle.list_replay.specs.declared.Replayed.the-variants.{Done, Stopp
 use Rattle.list_replay.specs.Steps.{Step, stepWidth, stepAt, stepEntries, entriesOf}
 
 -- "both or neither": recordings one after the other, and the list as it was where one is refused. "lt's refusal first": it is the first of them
-unfoldable pub recordTogether : U32List → List U32TableEntry → Outcome U32List
-recordTogether l es =
-    let a = recordEach l es in record { answer = a .answer; left = cond (eqb (a .answer .number) 0) (a .left) l }
+unfoldable pub recordTogether : HeldList → List U32TableEntry → Outcome HeldList
+recordTogether h es =
+    let a = recordEach h es in record { answer = a .answer; left = cond (eqb (a .answer .number) 0) (a .left) h }
 
 -- what a step's entries do to a list; a refused step changes nothing
-abbrev pub stepAs : U32List → StepEntries → Outcome U32List
-stepAs l (One e) = recordTogether l (e ∷ [])
-stepAs l (Two e f) = recordTogether l (e ∷ f ∷ [])
-stepAs l (Refused reason) = record { answer = declined reason; left = l }
+abbrev pub stepAs : HeldList → StepEntries → Outcome HeldList
+stepAs h (One e) = recordTogether h (e ∷ [])
+stepAs h (Two e f) = recordTogether h (e ∷ f ∷ [])
+stepAs h (Refused reason) = record { answer = declined reason; left = h }
 
-unfoldable pub stepAll : U32List → Step → Outcome U32List
-stepAll l s = stepAs l (stepEntries s)
+unfoldable pub stepAll : HeldList → Step → Outcome HeldList
+stepAll h s = stepAs h (stepEntries s)
 
 -- "returns its number and how many were done"
-abbrev pub stoppedAt : (number done : ℕ) → U32List → Outcome U32List
-stoppedAt number done l = record { answer = record { number = number; values = done ∷ [] }; left = l }
+abbrev pub stoppedAt : (number done : ℕ) → HeldList → Outcome HeldList
+stoppedAt number done h = record { answer = record { number = number; values = done ∷ [] }; left = h }
 
 -- The n steps from step i on: "The replay ends at the first refused step, with the list as the steps before it made it". Where none is refused the
 -- number is 0, and all are done
-unfoldable pub replayFrom : U32List → (trace : List ℕ) → (i n : ℕ) → Outcome U32List
-replayFrom l trace i zero = stoppedAt 0 i l
-replayFrom l trace i (suc n) =
-    let a = stepAll l (stepAt trace i) in
-    cond (eqb (a .answer .number) 0) (replayFrom (a .left) trace (suc i) n) (stoppedAt (a .answer .number) i l)
+unfoldable pub replayFrom : HeldList → (trace : List ℕ) → (i n : ℕ) → Outcome HeldList
+replayFrom h trace i zero = stoppedAt 0 i h
+replayFrom h trace i (suc n) =
+    let a = stepAll h (stepAt trace i) in
+    cond (eqb (a .answer .number) 0) (replayFrom (a .left) trace (suc i) n) (stoppedAt (a .answer .number) i h)
 
 -- "1 comes before all steps": the shape of the list, or a trace that is not of whole steps
-unfoldable pub replayReason : U32List → (trace : List ℕ) → Judgement
-replayReason l trace = orElse (listShape l) (declineIf (not (eqb (length trace % stepWidth) 0)) Shape)
+unfoldable pub replayReason : HeldList → (trace : List ℕ) → Judgement
+replayReason h trace = orElse (heldShape h) (declineIf (not (eqb (length trace % stepWidth) 0)) Shape)
 
 -- ".. with none done"
-abbrev pub replayedAs : Judgement → U32List → (trace : List ℕ) → Outcome U32List
-replayedAs Fine l trace = replayFrom l trace 0 (length trace / stepWidth)
-replayedAs (Declined reason) l trace = stoppedAt (refusalNumber reason) 0 l
+abbrev pub replayedAs : Judgement → HeldList → (trace : List ℕ) → Outcome HeldList
+replayedAs Fine h trace = replayFrom h trace 0 (length trace / stepWidth)
+replayedAs (Declined reason) h trace = stoppedAt (refusalNumber reason) 0 h
 
-unfoldable pub replayAll : U32List → (trace : List ℕ) → Outcome U32List
-replayAll l trace = replayedAs (replayReason l trace) l trace
+unfoldable pub replayAll : HeldList → (trace : List ℕ) → Outcome HeldList
+replayAll h trace = replayedAs (replayReason h trace) h trace
 
 -- what the answer of a replay means
 abbrev pub replayedAnswer : Replayed → Answer

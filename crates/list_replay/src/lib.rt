@@ -3,7 +3,7 @@ ghost use mathlib.Core.Path.{_≡_};
 ghost use mathlib.Core.Logic.{_≢_};
 ghost use mathlib.Core.List.{[], _∷_};
 ghost use Rattle.words.specs.Outcomes.{Leaves, completedAnswer};
-ghost use Rattle.list.specs.Lists.{u32List};
+ghost use Rattle.list.specs.Holds.{heldList};
 ghost use Rattle.list_replay.specs.Steps.{splitStep, divModStep, merkleStep, stepEntries};
 ghost use Rattle.list_replay.specs.Replay.{recordTogether, stepAll, replayAll, replayedAnswer};
 ghost use Rattle.list_replay.specs.Together.{secondPlace, reasonAt};
@@ -147,16 +147,18 @@ fn record_both(
     sizes: Sizes,
     keys: &mut [u64],
     multiplicities: &mut [u64],
+    holds: &mut [u64],
     e: U32TableEntry,
     f: U32TableEntry,
 ) -> Stepping
     requires { ⌜ e .opcode ≢ f .opcode ⌝ }
-    ensures { λ r. ⌜ Leaves (recordTogether (u32List sizes (now (keys .entry)) (now (multiplicities .entry))) (e ∷ f ∷ [])) (completedAnswer (r .answer)) (u32List (r .sizes) (now (keys .exit)) (now (multiplicities .exit))) ⌝ }
+    ensures { λ r. ⌜ Leaves (recordTogether (heldList sizes (now (keys .entry)) (now (multiplicities .entry)) (now (holds .entry))) (e ∷ f ∷ [])) (completedAnswer (r .answer)) (heldList (r .sizes) (now (keys .exit)) (now (multiplicities .exit)) (now (holds .exit))) ⌝ }
 {
     let first = list_record::find_place(
         sizes,
         keys,
         multiplicities,
+        holds,
         e.opcode,
         e.left_operand,
         e.right_operand,
@@ -171,6 +173,7 @@ fn record_both(
         sizes,
         keys,
         multiplicities,
+        holds,
         f.opcode,
         f.left_operand,
         f.right_operand,
@@ -182,9 +185,9 @@ fn record_both(
             sizes,
         };
     }
-    let half = list_record::store(sizes, keys, multiplicities, first);
+    let half = list_record::store(sizes, keys, multiplicities, holds, first, 1, 0);
     let between = half.sizes;
-    let whole = list_record::store(between, keys, multiplicities, second);
+    let whole = list_record::store(between, keys, multiplicities, holds, second, 1, 0);
     let after = whole.sizes;
     Stepping {
         answer: Completed::Done,
@@ -197,11 +200,12 @@ fn replay_step(
     sizes: Sizes,
     keys: &mut [u64],
     multiplicities: &mut [u64],
+    holds: &mut [u64],
     opcode: u64,
     first: u64,
     second: u64,
 ) -> Stepping
-    ensures { λ r. ⌜ Leaves (stepAll (u32List sizes (now (keys .entry)) (now (multiplicities .entry))) (record { opcode = opcode; first = first; second = second })) (completedAnswer (r .answer)) (u32List (r .sizes) (now (keys .exit)) (now (multiplicities .exit))) ⌝ }
+    ensures { λ r. ⌜ Leaves (stepAll (heldList sizes (now (keys .entry)) (now (multiplicities .entry)) (now (holds .entry))) (record { opcode = opcode; first = first; second = second })) (completedAnswer (r .answer)) (heldList (r .sizes) (now (keys .exit)) (now (multiplicities .exit)) (now (holds .exit))) ⌝ }
 {
     match step_entries(opcode, first, second) {
         StepEntries::One(e) => {
@@ -209,6 +213,7 @@ fn replay_step(
                 sizes,
                 keys,
                 multiplicities,
+                holds,
                 e.opcode,
                 e.left_operand,
                 e.right_operand,
@@ -226,7 +231,7 @@ fn replay_step(
                 },
             }
         }
-        StepEntries::Two(e, f) => record_both(sizes, keys, multiplicities, e, f),
+        StepEntries::Two(e, f) => record_both(sizes, keys, multiplicities, holds, e, f),
         StepEntries::Refused(reason) => Stepping {
             answer: Completed::Refused(reason),
             sizes,
@@ -239,11 +244,12 @@ pub fn replay(
     sizes: Sizes,
     keys: &mut [u64],
     multiplicities: &mut [u64],
+    holds: &mut [u64],
     trace: &[u64],
 ) -> Replaying
-    ensures { λ r. ⌜ Leaves (replayAll (u32List sizes (now (keys .entry)) (now (multiplicities .entry))) (now (trace .entry))) (replayedAnswer (r .answer)) (u32List (r .sizes) (now (keys .exit)) (now (multiplicities .exit))) ⌝ }
+    ensures { λ r. ⌜ Leaves (replayAll (heldList sizes (now (keys .entry)) (now (multiplicities .entry)) (now (holds .entry))) (now (trace .entry))) (replayedAnswer (r .answer)) (heldList (r .sizes) (now (keys .exit)) (now (multiplicities .exit)) (now (holds .exit))) ⌝ }
 {
-    if let Judgement::Declined(reason) = list::list_shape(sizes, keys, multiplicities) {
+    if let Judgement::Declined(reason) = list::held_shape(sizes, keys, multiplicities, holds) {
         return Replaying {
             answer: Replayed::Stopped { reason, done: 0 },
             sizes,
@@ -267,6 +273,7 @@ pub fn replay(
             held,
             keys,
             multiplicities,
+            holds,
             trace[at],
             trace[at + 1],
             trace[at + 2],

@@ -1,13 +1,14 @@
 -- The two round trips, over `writeAll` and `readAll`, which the contracts of writing and reading cite. That the second call does not refuse is a
 -- conclusion of each. What was written holds the list's entries and multiplicities, since these fit the bytes that are given to them; what was
--- read is the stored form of what the bytes hold.
+-- read is the stored form of what the bytes hold, and none of it is held, so that writing it does not meet 15.
 use mathlib.Core.Path.{_≡_, refl, sym, ap, ap₂, _∙_}
 use mathlib.Core.Bool.{false}
 use mathlib.Core.List.{List, [], _∷_, map, flatMap}
 use native.Mathlib.Decide.{ℕ-discrete}
 use Prim.Native.Nat.{ℕ, _≤_, _<_}
+use native.Mathlib.Nat.{zero-add}
 use native.Mathlib.Omega.{arith}
-use lib.ListN.{length, getD, take}
+use lib.ListN.{length, getD, take, replicate, length-replicate, getD-replicate}
 use lib.Seq.{sets, length-sets}
 use Rattle.words.specs.Limits.{maxPlaces}
 use Rattle.words.specs.Answers.{Answer, done}
@@ -15,17 +16,19 @@ use Rattle.words.specs.Outcomes.{Outcome}
 use Rattle.words.specs.declared.Judgement.the-variants.{Fine}
 use Rattle.words.specs.Places.{places, placesFrom}
 use Rattle.words.proofs.Outcomes.{outcome-fine, outcome-done}
-use Rattle.words.proofs.Sets.{sets-front, take-sets-front}
+use Rattle.words.proofs.Sets.{sets-front, take-sets-front, getD-sets-in}
 use Rattle.words.proofs.Places.{map-cong, flat-cong}
 use Rattle.isa.specs.Entries.{admitStored, admitted}
 use Rattle.isa.proofs.Entries.{admissible-as-it-is, as-it-is}
-use Rattle.list.specs.Lists.{U32List, capacity, used, keyAt, multiplicityAt, entryAt, listShape, judgeList}
+use Rattle.list.specs.Lists.{U32List, capacity, used, keyAt, multiplicityAt, entryAt, judgeList}
 use Rattle.list.specs.Heights.{sumHeights, listHeight}
-use Rattle.list.proofs.JudgedLists.{Shaped, shaped, list-admitted, admitted-fine, entry-admissible, list-height-small}
+use Rattle.list.specs.Holds.{HeldList, holdAt, heldShape, openHold, sectionList, judgeHeld}
+use Rattle.list.proofs.JudgedLists.{list-admitted, admitted-fine, entry-admissible, list-height-small}
+use Rattle.list.proofs.HeldLists.{HeldShaped, held-shaped, held-shape-fine, closed, held-fine, held-judged}
 use Rattle.list.proofs.Places.{section-entries-map}
 use Rattle.list_bytes.specs.Packed.{multiplicityWidth, widthOf, storedLength, storedBytes, storedN, storedHeight, storedEntry, storedMultiplicity, storedEntries}
 use Rattle.list_repeats.specs.Repeats.{repeats}
-use Rattle.list_stored.specs.Stored.{readReason, readAll, replaced, writeReason, writeAll}
+use Rattle.list_stored.specs.Stored.{readReason, readAll, replacedList, replaced, writeReason, writeAll}
 use Rattle.list_round_trips.specs.RoundTrips.{ReadsBack, NewForm, WrittenAgain}
 use Rattle.list_bytes.proofs.StoredPlaces.{length-stored-places}
 use Rattle.list_stored.proofs.Reasons.{new-long, Readable, readable, readable-fine, writable, write-fine}
@@ -35,47 +38,59 @@ use Rattle.list_bytes.proofs.Format.{keysForm, countsForm, formed, width-new, s
 
 -- ---- an answer other than a refusal
 
-pub read-answered : (l : U32List) (s : List ℕ) (n : ℕ) → readAll l s .answer ≡ done (n ∷ []) → readReason l s ≡ Fine
+pub read-answered : (h : HeldList) (s : List ℕ) (n : ℕ) → readAll h s .answer ≡ done (n ∷ []) → readReason h s ≡ Fine
 unfolding readAll
-read-answered l s n e = outcome-done (readReason l s) _ _ _ (ap (λ (a : Answer). a .number) e)
+read-answered h s n e = outcome-done (readReason h s) _ _ _ (ap (λ (a : Answer). a .number) e)
 
-pub write-answered : (l : U32List) (out : List ℕ) (n : ℕ) → writeAll l out .answer ≡ done (n ∷ []) → writeReason l out ≡ Fine
+pub write-answered : (h : HeldList) (out : List ℕ) (n : ℕ) → writeAll h out .answer ≡ done (n ∷ []) → writeReason h out ≡ Fine
 unfolding writeAll
-write-answered l out n e = outcome-done (writeReason l out) _ _ _ (ap (λ (a : Answer). a .number) e)
+write-answered h out n e = outcome-done (writeReason h out) _ _ _ (ap (λ (a : Answer). a .number) e)
 
 -- what is due then
-pub read-is : (l : U32List) (s : List ℕ) → readReason l s ≡ Fine → readAll l s ≡ record { answer = done (storedN s ∷ []); left = replaced l s }
+pub read-is : (h : HeldList) (s : List ℕ) → readReason h s ≡ Fine → readAll h s ≡ record { answer = done (storedN s ∷ []); left = replaced h s }
 unfolding readAll
-read-is l s e = outcome-fine _ _ _ e
+read-is h s e = outcome-fine _ _ _ e
 
-pub written-is : (l : U32List) (out : List ℕ) → writeReason l out ≡ Fine
-    → writeAll l out ≡ record { answer = done (storedLength (used l) ∷ []); left = sets out 0 (storedBytes l) }
+pub written-is : (h : HeldList) (out : List ℕ) → writeReason h out ≡ Fine
+    → writeAll h out ≡ record { answer = done (storedLength (used (sectionList h)) ∷ []); left = sets out 0 (storedBytes (sectionList h)) }
 unfolding writeAll
-written-is l out e = outcome-fine _ _ _ e ∙ rw (length-stored-places l)
+written-is h out e = outcome-fine _ _ _ e ∙ rw (length-stored-places (sectionList h))
 
-pub written-length : (l : U32List) (out : List ℕ) (n : ℕ) → writeAll l out .answer ≡ done (n ∷ []) → n ≡ storedLength (used l)
-written-length l out n a =
-    ap (λ (x : Answer). getD (x .values) 0 0) (sym a ∙ ap (λ (w : Outcome (List ℕ)). w .answer) (written-is l out (write-answered l out n a)))
+pub written-length : (h : HeldList) (out : List ℕ) (n : ℕ) → writeAll h out .answer ≡ done (n ∷ []) → n ≡ storedLength (used (sectionList h))
+written-length h out n a =
+    ap (λ (x : Answer). getD (x .values) 0 0) (sym a ∙ ap (λ (w : Outcome (List ℕ)). w .answer) (written-is h out (write-answered h out n a)))
 
 -- ---- what a list that was read holds
 
-module _ (l : U32List) (s : List ℕ) (h : Readable l s) where
-  replaced-key : (i : ℕ) → i < storedN s → keyAt (replaced l s) i ≡ storedEntry s i
+module _ (h : HeldList) (s : List ℕ) (w : Readable h s) where
+  replaced-key : (i : ℕ) → i < storedN s → keyAt (replacedList (h .list) s) i ≡ storedEntry s i
   replaced-key i p =
-      let f = h .shape in
-      key-put (storedEntry s) (storedN s) (l .keys) (omega (arith, h .room)) (replaced l s .sizes) (replaced l s .multiplicities) i p
+      let f = w .shape in
+      let l = replacedList (h .list) s in
+      key-put (storedEntry s) (storedN s) (h .list .keys) (omega (arith, w .room)) (l .sizes) (l .multiplicities) i p
 
-  replaced-multiplicity : (i : ℕ) → i < storedN s → multiplicityAt (replaced l s) i ≡ storedMultiplicity s i
+  replaced-multiplicity : (i : ℕ) → i < storedN s → multiplicityAt (replacedList (h .list) s) i ≡ storedMultiplicity s i
   replaced-multiplicity i p =
-      let f = h .shape in
-      multiplicity-put (storedMultiplicity s) (storedN s) (l .multiplicities) (omega (arith, h .room)) (replaced l s .sizes) (replaced l s .keys) i p
+      let f = w .shape in
+      let l = replacedList (h .list) s in
+      multiplicity-put (storedMultiplicity s) (storedN s) (h .list .multiplicities) (omega (arith, w .room)) (l .sizes) (l .keys) i p
 
-  replaced-entry : (i : ℕ) → i < storedN s → entryAt (replaced l s) i ≡ storedEntry s i
+  replaced-entry : (i : ℕ) → i < storedN s → entryAt (replacedList (h .list) s) i ≡ storedEntry s i
   unfolding entryAt
-  replaced-entry i p = ap admitted (replaced-key i p) ∙ as-it-is (storedEntry s i) (h .entries i p) .1
+  replaced-entry i p = ap admitted (replaced-key i p) ∙ as-it-is (storedEntry s i) (w .entries i p) .1
 
-  replaced-entries : map (entryAt (replaced l s)) (places (storedN s)) ≡ storedEntries s
-  replaced-entries = map-cong (entryAt (replaced l s)) (storedEntry s) 0 (storedN s) (λ i p q. replaced-entry i (omega arith))
+  replaced-entries : map (entryAt (replacedList (h .list) s)) (places (storedN s)) ≡ storedEntries s
+  replaced-entries = map-cong (entryAt (replacedList (h .list) s)) (storedEntry s) 0 (storedN s) (λ i p q. replaced-entry i (omega arith))
+
+  -- none of it is held
+  replaced-hold : (i : ℕ) → i < storedN s → holdAt (replaced h s) i ≡ 0
+  unfolding holdAt
+  replaced-hold i p =
+      let f = w .shape in
+      let e = length-replicate {A = ℕ} (storedN s) 0 in
+      ap (λ (a : ℕ). getD (sets (h .holds) 0 (replicate (storedN s) 0)) a 0) (sym (zero-add i))
+      ∙ getD-sets-in (replicate (storedN s) 0) (h .holds) 0 i 0 (omega arith) (omega (arith, w .room))
+      ∙ getD-replicate (storedN s) i 0 0 p
 
 height-sum : (l : U32List) → listHeight l ≡ sumHeights (map (entryAt l) (places (used l)))
 unfolding listHeight
@@ -111,7 +126,7 @@ module _ (l : U32List) (fine : judgeList l ≡ Fine) where
   stored-admitted : (i : ℕ) → i < used l → admitStored (entryAt l i) ≡ Fine
   stored-admitted i p = admissible-as-it-is (entryAt l i) (entry-admissible l fine i p)
 
-  module _ (none : repeats (map (entryAt l) (places (used l))) ≡ false) (to : U32List) (sh : Shaped to) (room : used l ≤ capacity to) where
+  module _ (none : repeats (map (entryAt l) (places (used l))) ≡ false) (to : HeldList) (sh : HeldShaped to) (room : used l ≤ capacity (to .list)) where
     stored-readable : Readable to (storedBytes l)
     stored-readable = record {
       shape = sh;
@@ -134,110 +149,131 @@ module _ (l : U32List) (fine : judgeList l ≡ Fine) where
             keys = λ i p. replaced-key to (storedBytes l) r i (rw stored-n p) ∙ stored-entry i p;
             multiplicities = λ i p. replaced-multiplicity to (storedBytes l) r i (rw stored-n p) ∙ stored-multiplicity i p;
           };
+          holds = λ i p. replaced-hold to (storedBytes l) r i (rw stored-n p);
         })
 
 -- Writing has answered n: the first n bytes, read onto any list of right shape with room for the entries, give the same list
-pub written-reads-back : (l to : U32List) (out : List ℕ) (n : ℕ)
-    → writeAll l out .answer ≡ done (n ∷ []) → listShape to ≡ Fine → used l ≤ capacity to
-    → ReadsBack l (readAll to (take n (writeAll l out .left)))
-written-reads-back l to out n a sh room =
-    let e = write-answered l out n a in
-    let w = writable l out e in
-    let k = written-length l out n a in
-    let b : take n (writeAll l out .left) ≡ storedBytes l
-    = rw (written-is l out e) (take-sets-front (storedBytes l) out n (length-stored l ∙ sym k) (omega (arith, w .room))) in
-    rw b (stored-reads l (w .list) (w .distinct) to (shaped to sh) room)
+pub written-reads-back : (h to : HeldList) (out : List ℕ) (n : ℕ)
+    → writeAll h out .answer ≡ done (n ∷ []) → heldShape to ≡ Fine → used (sectionList h) ≤ capacity (to .list)
+    → ReadsBack (sectionList h) (readAll to (take n (writeAll h out .left)))
+written-reads-back h to out n a sh room =
+    let e = write-answered h out n a in
+    let w = writable h out e in
+    let k = written-length h out n a in
+    let l = sectionList h in
+    let b : take n (writeAll h out .left) ≡ storedBytes l
+    = rw (written-is h out e) (take-sets-front (storedBytes l) out n (length-stored l ∙ sym k) (omega (arith, w .room))) in
+    rw b (stored-reads l (held-judged h (w .judged)) (w .distinct) to (held-shaped to sh) room)
 
 -- ---- what was accepted is written again
 
-module _ (l : U32List) (s : List ℕ) (h : Readable l s) where
-  replaced-shape : Shaped (replaced l s)
+module _ (h : HeldList) (s : List ℕ) (w : Readable h s) where
+  replaced-shape : HeldShaped (replaced h s)
   replaced-shape =
-      let f = h .shape in
+      let f = w .shape in
       record {
-        small = f .small;
-        within = h .room;
-        keys = length-sets (l .keys) 0 (keysOf (storedEntry s) (storedN s)) ∙ f .keys;
-        multiplicities = length-sets (l .multiplicities) 0 (map (storedMultiplicity s) (places (storedN s))) ∙ f .multiplicities;
+        list = record {
+          small = f .list .small;
+          within = w .room;
+          keys = length-sets (h .list .keys) 0 (keysOf (storedEntry s) (storedN s)) ∙ f .list .keys;
+          multiplicities = length-sets (h .list .multiplicities) 0 (map (storedMultiplicity s) (places (storedN s))) ∙ f .list .multiplicities;
+        };
+        holds = length-sets (h .holds) 0 (replicate (storedN s) 0) ∙ f .holds;
       }
 
-  replaced-fine : judgeList (replaced l s) ≡ Fine
+  replaced-fine : judgeList (replacedList (h .list) s) ≡ Fine
   replaced-fine =
-      admitted-fine (replaced l s)
+      admitted-fine (replacedList (h .list) s)
       (record {
-        shape = replaced-shape;
-        entry = λ i p. rw (replaced-key l s h i p) (as-it-is (storedEntry s i) (h .entries i p) .0);
-        multiplicity = λ i p. rw (replaced-multiplicity l s h i p) (h .counts i p);
+        shape = replaced-shape .list;
+        entry = λ i p. rw (replaced-key h s w i p) (as-it-is (storedEntry s i) (w .entries i p) .0);
+        multiplicity = λ i p. rw (replaced-multiplicity h s w i p) (w .counts i p);
       })
 
-  replaced-height : listHeight (replaced l s) ≡ storedHeight s
-  replaced-height = height-sum (replaced l s) ∙ ap sumHeights (replaced-entries l s h) ∙ sym (h .tallied)
+  -- what gets sections of it is all of it
+  replaced-sections : sectionList (replaced h s) ≡ replacedList (h .list) s
+  unfolding sectionList
+  replaced-sections = refl
+
+  replaced-judged : judgeHeld (replaced h s) ≡ Fine
+  replaced-judged =
+      held-fine (replaced h s) (held-shape-fine (replaced h s) replaced-shape) (closed (replaced h s) (replaced-hold h s w)) (rw replaced-sections replaced-fine)
+
+  replaced-height : listHeight (replacedList (h .list) s) ≡ storedHeight s
+  replaced-height = height-sum (replacedList (h .list) s) ∙ ap sumHeights (replaced-entries h s w) ∙ sym (w .tallied)
 
   -- the bytes of the list that was read: the same, with multiplicities of eight bytes
-  replaced-form : storedBytes (replaced l s) ≡ formed multiplicityWidth (storedEntry s) (storedMultiplicity s) (storedN s) (storedHeight s)
+  replaced-form : storedBytes (replacedList (h .list) s) ≡ formed multiplicityWidth (storedEntry s) (storedMultiplicity s) (storedN s) (storedHeight s)
   replaced-form =
-      let K : keysForm (entryAt (replaced l s)) (storedN s) ≡ keysForm (storedEntry s) (storedN s)
-      = flat-cong _ _ 0 (storedN s) (λ i p q. rw (replaced-entry l s h i (omega arith))) in
-      let C : countsForm multiplicityWidth (multiplicityAt (replaced l s)) (storedN s) ≡ countsForm multiplicityWidth (storedMultiplicity s) (storedN s)
-      = flat-cong _ _ 0 (storedN s) (λ i p q. rw (replaced-multiplicity l s h i (omega arith))) in
-      stored-formed (replaced l s) ∙ rw (K, C, replaced-height)
+      let l = replacedList (h .list) s in
+      let K : keysForm (entryAt l) (storedN s) ≡ keysForm (storedEntry s) (storedN s)
+      = flat-cong _ _ 0 (storedN s) (λ i p q. rw (replaced-entry h s w i (omega arith))) in
+      let C : countsForm multiplicityWidth (multiplicityAt l) (storedN s) ≡ countsForm multiplicityWidth (storedMultiplicity s) (storedN s)
+      = flat-cong _ _ 0 (storedN s) (λ i p q. rw (replaced-multiplicity h s w i (omega arith))) in
+      stored-formed l ∙ rw (K, C, replaced-height)
 
-  replaced-written : (out : List ℕ) → storedLength (storedN s) ≤ length out → writeReason (replaced l s) out ≡ Fine
-  replaced-written out r =
-      write-fine (replaced l s) out replaced-fine (ap repeats (replaced-entries l s h) ∙ h .distinct) r
+  replaced-distinct : repeats (map (entryAt (replacedList (h .list) s)) (places (storedN s))) ≡ false
+  replaced-distinct = ap repeats (replaced-entries h s w) ∙ w .distinct
+
+  -- no reason is left against writing it, 15 neither
+  replaced-written : (out : List ℕ) → storedLength (storedN s) ≤ length out → writeReason (replaced h s) out ≡ Fine
+  replaced-written out r = write-fine (replaced h s) out replaced-judged (rw replaced-sections replaced-distinct) (rw replaced-sections r)
 
   -- they hold the list that s holds
-  again-readable : Readable l (storedBytes (replaced l s))
-  again-readable =
-      stored-readable (replaced l s) replaced-fine (ap repeats (replaced-entries l s h) ∙ h .distinct) l (h .shape) (h .room)
+  again-readable : Readable h (storedBytes (replacedList (h .list) s))
+  again-readable = stored-readable (replacedList (h .list) s) replaced-fine replaced-distinct h (w .shape) (w .room)
 
-  again-list : replaced l (storedBytes (replaced l s)) ≡ replaced l s
+  again-list : replaced h (storedBytes (replacedList (h .list) s)) ≡ replaced h s
   again-list =
-      let t = storedBytes (replaced l s) in
-      let n : storedN t ≡ storedN s = stored-n (replaced l s) replaced-fine in
+      let l = replacedList (h .list) s in
+      let t = storedBytes l in
+      let n : storedN t ≡ storedN s = stored-n l replaced-fine in
       let K : keysOf (storedEntry t) (storedN s) ≡ keysOf (storedEntry s) (storedN s)
-      = flat-cong _ _ 0 (storedN s) (λ i p q. rw (stored-entry (replaced l s) replaced-fine i (omega arith), replaced-entry l s h i (omega arith))) in
+      = flat-cong _ _ 0 (storedN s) (λ i p q. rw (stored-entry l replaced-fine i (omega arith), replaced-entry h s w i (omega arith))) in
       let M : map (storedMultiplicity t) (places (storedN s)) ≡ map (storedMultiplicity s) (places (storedN s))
-      = map-cong _ _ 0 (storedN s) (λ i p q. stored-multiplicity (replaced l s) replaced-fine i (omega arith) ∙ replaced-multiplicity l s h i (omega arith)) in
+      = map-cong _ _ 0 (storedN s) (λ i p q. stored-multiplicity l replaced-fine i (omega arith) ∙ replaced-multiplicity h s w i (omega arith)) in
       rw (n, K, M)
 
-module _ (l : U32List) (s : List ℕ) (bytes : (j : ℕ) → getD s j 0 < 256) (h : Readable l s) where
+module _ (h : HeldList) (s : List ℕ) (bytes : (j : ℕ) → getD s j 0 < 256) (w : Readable h s) where
   -- where s has the new length, they are s
-  replaced-bytes : length s ≡ storedLength (storedN s) → storedBytes (replaced l s) ≡ s
+  replaced-bytes : length s ≡ storedLength (storedN s) → storedBytes (replacedList (h .list) s) ≡ s
   unfolding placesFrom flatMap
-  replaced-bytes long = replaced-form l s h ∙ go (ℕ-discrete (storedN s) 0) ∙ formed-again s bytes (storedN s) (storedHeight s) (h .complete .long) refl refl
+  replaced-bytes long = replaced-form h s w ∙ go (ℕ-discrete (storedN s) 0) ∙ formed-again s bytes (storedN s) (storedHeight s) (w .complete .long) refl refl
     where
       go : Dec (storedN s ≡ 0)
           → formed multiplicityWidth (storedEntry s) (storedMultiplicity s) (storedN s) (storedHeight s)
           ≡ formed (widthOf s) (storedEntry s) (storedMultiplicity s) (storedN s) (storedHeight s)
       go (yes z) = rw z refl
-      go (no f) = ap (λ (w : ℕ). formed w (storedEntry s) (storedMultiplicity s) (storedN s) (storedHeight s)) (sym (width-new s long (omega arith)))
+      go (no f) = ap (λ (v : ℕ). formed v (storedEntry s) (storedMultiplicity s) (storedN s) (storedHeight s)) (sym (width-new s long (omega arith)))
 
-  new-form : NewForm l s (storedBytes (replaced l s))
-  new-form = record {
-    long = length-stored (replaced l s);
-    same-list =
-        read-is l (storedBytes (replaced l s)) (readable-fine l (storedBytes (replaced l s)) (again-readable l s h))
-        ∙ ap₂ (λ (n : ℕ) (r : U32List). record { answer = done (n ∷ []); left = r }) (stored-n (replaced l s) (replaced-fine l s h)) (again-list l s h)
-        ∙ sym (read-is l s (readable-fine l s h));
-    same-bytes = replaced-bytes;
-  }
+  new-form : NewForm h s (storedBytes (replacedList (h .list) s))
+  new-form =
+      let t = storedBytes (replacedList (h .list) s) in
+      record {
+        long = length-stored (replacedList (h .list) s);
+        same-list =
+            read-is h t (readable-fine h t (again-readable h s w))
+            ∙ ap₂ (λ (n : ℕ) (r : HeldList). record { answer = done (n ∷ []); left = r })
+            (stored-n (replacedList (h .list) s) (replaced-fine h s w)) (again-list h s w)
+            ∙ sym (read-is h s (readable-fine h s w));
+        same-bytes = replaced-bytes;
+      }
 
 -- Reading has answered n: the list that it left is written in the new form, wherever there is room for it
-pub read-writes-back : (l : U32List) (s out : List ℕ) (n : ℕ) → ((j : ℕ) → getD s j 0 < 256)
-    → readAll l s .answer ≡ done (n ∷ []) → storedLength (storedN s) ≤ length out
-    → (t : List ℕ) × NewForm l s t × WrittenAgain t out (writeAll (readAll l s .left) out)
-read-writes-back l s out n bytes a room =
-    let e = read-answered l s n a in
-    let h = readable l s e in
-    let t = storedBytes (replaced l s) in
-    let k = length-stored (replaced l s) in (
+pub read-writes-back : (h : HeldList) (s out : List ℕ) (n : ℕ) → ((j : ℕ) → getD s j 0 < 256)
+    → readAll h s .answer ≡ done (n ∷ []) → storedLength (storedN s) ≤ length out
+    → (t : List ℕ) × NewForm h s t × WrittenAgain t out (writeAll (readAll h s .left) out)
+read-writes-back h s out n bytes a room =
+    let e = read-answered h s n a in
+    let w = readable h s e in
+    let t = storedBytes (replacedList (h .list) s) in
+    let k = length-stored (replacedList (h .list) s) in (
       t,
-      new-form l s bytes h,
-      rw (read-is l s e, written-is (replaced l s) out (replaced-written l s h out room))
+      new-form h s bytes w,
+      rw (read-is h s e, written-is (replaced h s) out (replaced-written h s w out room), replaced-sections h s w)
           (record { answer = ap (λ (k : ℕ). done (k ∷ [])) (sym k); bytes = sets-front t out (omega arith) }),
     )
 
--- a list that was read is admitted
-pub read-list-fine : (l : U32List) (s : List ℕ) → readReason l s ≡ Fine → judgeList (readAll l s .left) ≡ Fine
-read-list-fine l s e = rw (read-is l s e) (replaced-fine l s (readable l s e))
+-- a list that was read is admitted, and none of it is held
+pub read-list-fine : (h : HeldList) (s : List ℕ) → readReason h s ≡ Fine → judgeHeld (readAll h s .left) ≡ Fine
+read-list-fine h s e = rw (read-is h s e) (replaced-judged h s (readable h s e))

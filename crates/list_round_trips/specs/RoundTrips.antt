@@ -1,5 +1,5 @@
 -- The two round trips of stored lists: what was written reads back as the same list, and what was accepted is written again in the new form, to the
--- same bytes where it has that form.
+-- same bytes where it has that form. Holds are "not stored in files": what reads back has none.
 use Prim.Native.Nat.{ℕ, _≤_, _<_}
 use mathlib.Core.Path.{_≡_}
 use mathlib.Core.List.{List, [], _∷_, _++_}
@@ -7,7 +7,8 @@ use lib.ListN.{length, take, drop}
 use Rattle.words.specs.Answers.{done}
 use Rattle.words.specs.Outcomes.{Outcome, Leaves, unlessDeclined}
 use Rattle.words.specs.declared.Judgement.the-variants.{Fine}
-use Rattle.list.specs.Lists.{U32List, capacity, used, keyAt, entryAt, multiplicityAt, listShape}
+use Rattle.list.specs.Lists.{U32List, capacity, used, keyAt, entryAt, multiplicityAt}
+use Rattle.list.specs.Holds.{HeldList, holdAt, heldShape, sectionList}
 use Rattle.list_bytes.specs.Packed.{storedPlaces, storedLength, storedN}
 use Rattle.list_stored.specs.Stored.{readReason, readAll, readAnswer, writeReason, writeAll, writtenAnswer}
 use Rattle.list_stored.specs.declared.Read.{Read}
@@ -20,10 +21,11 @@ pub record SameList (a b : U32List) : Type 0 where
   pub keys : (i : ℕ) → i < used b → keyAt a i ≡ entryAt b i
   pub multiplicities : (i : ℕ) → i < used b → multiplicityAt a i ≡ multiplicityAt b i
 
--- a reading has answered the number of entries of the list l, and left the same list
-pub record ReadsBack (l : U32List) (reading : Outcome U32List) : Type 0 where
+-- a reading has answered the number of entries of the list l, and left the same list, with no hold
+pub record ReadsBack (l : U32List) (reading : Outcome HeldList) : Type 0 where
   pub answer : reading .answer ≡ done (used l ∷ [])
-  pub list : SameList (reading .left) l
+  pub list : SameList (reading .left .list) l
+  pub holds : (i : ℕ) → i < used l → holdAt (reading .left) i ≡ 0
 
 -- a writing to `out` has answered the length of the bytes s, and left them there; what follows them is as it was
 pub record WrittenAgain (s out : List ℕ) (writing : Outcome (List ℕ)) : Type 0 where
@@ -32,29 +34,31 @@ pub record WrittenAgain (s out : List ℕ) (writing : Outcome (List ℕ)) : Type
 
 -- "'same bytes again' holds for lists of the new length, and an old one is written to the new form of the same list": t has the new length,
 -- holds the list that s holds, and is s itself where s has the new length
-pub record NewForm (l : U32List) (s t : List ℕ) : Type 0 where
+pub record NewForm (h : HeldList) (s t : List ℕ) : Type 0 where
   pub long : length t ≡ storedLength (storedN s)
-  pub same-list : readAll l t ≡ readAll l s
+  pub same-list : readAll h t ≡ readAll h s
   pub same-bytes : length s ≡ storedLength (storedN s) → t ≡ s
 
--- Writing the list l to `out`, then reading what was written onto another list; nothing is read where writing refuses
-unfoldable pub writeThenRead : U32List → List ℕ → U32List → Outcome U32List
-writeThenRead l out to =
-    unlessDeclined (writeReason l out) to (readAll to (take (storedLength (length (storedPlaces l))) (writeAll l out .left)))
+-- Writing the list h to `out`, then reading what was written onto another list; nothing is read where writing refuses
+unfoldable pub writeThenRead : HeldList → List ℕ → HeldList → Outcome HeldList
+writeThenRead h out to =
+    unlessDeclined (writeReason h out) to (readAll to (take (storedLength (length (storedPlaces (sectionList h)))) (writeAll h out .left)))
 
 -- What both calls leave, and the law: a list that is not refused reads back, onto any list of right shape with room for it
-pub record IsWrittenThenRead (l : U32List) (out : List ℕ) (to : U32List) (r : Read) (outAfter : List ℕ) (after : U32List) : Type 0 where
-  pub exact : Leaves (writeThenRead l out to) (readAnswer r) after
-  pub bytes : outAfter ≡ writeAll l out .left
-  pub law : writeReason l out ≡ Fine → listShape to ≡ Fine → used l ≤ capacity to → ReadsBack l (record { answer = readAnswer r; left = after })
+pub record IsWrittenThenRead (h : HeldList) (out : List ℕ) (to : HeldList) (r : Read) (outAfter : List ℕ) (after : HeldList) : Type 0 where
+  pub exact : Leaves (writeThenRead h out to) (readAnswer r) after
+  pub bytes : outAfter ≡ writeAll h out .left
+  pub law : writeReason h out ≡ Fine → heldShape to ≡ Fine → used (sectionList h) ≤ capacity (to .list)
+      → ReadsBack (sectionList h) (record { answer = readAnswer r; left = after })
 
--- Reading the bytes s onto the list l, then writing the list to `out`; nothing is written where reading refuses
-unfoldable pub readThenWrite : U32List → List ℕ → List ℕ → Outcome (List ℕ)
-readThenWrite l s out = unlessDeclined (readReason l s) out (writeAll (readAll l s .left) out)
+-- Reading the bytes s onto the list h, then writing the list to `out`; nothing is written where reading refuses
+unfoldable pub readThenWrite : HeldList → List ℕ → List ℕ → Outcome (List ℕ)
+readThenWrite h s out = unlessDeclined (readReason h s) out (writeAll (readAll h s .left) out)
 
--- What both calls leave, and the law: bytes that are not refused are written again in the new form, wherever there is room for it
-pub record IsReadThenWritten (l : U32List) (s out : List ℕ) (r : Written) (after : U32List) (outAfter : List ℕ) : Type 0 where
-  pub exact : Leaves (readThenWrite l s out) (writtenAnswer r) outAfter
-  pub list : after ≡ readAll l s .left
-  pub law : readReason l s ≡ Fine → storedLength (storedN s) ≤ length out
-      → (t : List ℕ) × NewForm l s t × WrittenAgain t out (record { answer = writtenAnswer r; left = outAfter })
+-- What both calls leave, and the law: bytes that are not refused are written again in the new form, wherever there is room for it, whatever holds
+-- were open before
+pub record IsReadThenWritten (h : HeldList) (s out : List ℕ) (r : Written) (after : HeldList) (outAfter : List ℕ) : Type 0 where
+  pub exact : Leaves (readThenWrite h s out) (writtenAnswer r) outAfter
+  pub list : after ≡ readAll h s .left
+  pub law : readReason h s ≡ Fine → storedLength (storedN s) ≤ length out
+      → (t : List ℕ) × NewForm h s t × WrittenAgain t out (record { answer = writtenAnswer r; left = outAfter })

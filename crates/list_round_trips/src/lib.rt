@@ -1,6 +1,6 @@
 // The two round trips of stored lists, as two calls each: what was written reads back as the same list, and what was accepted is written again
 // in the new form, to the same bytes where it has that form. Where the first call refuses, the second is not made.
-ghost use Rattle.list.specs.Lists.{u32List};
+ghost use Rattle.list.specs.Holds.{heldList};
 ghost use Rattle.list_round_trips.specs.RoundTrips.{IsWrittenThenRead, IsReadThenWritten};
 use list::Sizes;
 use list_stored::Read;
@@ -17,14 +17,16 @@ pub fn write_then_read(
     sizes: Sizes,
     keys: &[u64],
     multiplicities: &[u64],
+    holds: &[u64],
     out: &mut [u8],
     to_sizes: Sizes,
     to_keys: &mut [u64],
     to_multiplicities: &mut [u64],
+    to_holds: &mut [u64],
 ) -> Reading
-    ensures { λ r. ⌜ IsWrittenThenRead (u32List sizes (now (keys .entry)) (now (multiplicities .entry))) (now (out .entry)) (u32List «to_sizes» (now («to_keys» .entry)) (now («to_multiplicities» .entry))) (r .answer) (now (out .exit)) (u32List (r .sizes) (now («to_keys» .exit)) (now («to_multiplicities» .exit))) ⌝ }
+    ensures { λ r. ⌜ IsWrittenThenRead (heldList sizes (now (keys .entry)) (now (multiplicities .entry)) (now (holds .entry))) (now (out .entry)) (heldList «to_sizes» (now («to_keys» .entry)) (now («to_multiplicities» .entry)) (now («to_holds» .entry))) (r .answer) (now (out .exit)) (heldList (r .sizes) (now («to_keys» .exit)) (now («to_multiplicities» .exit)) (now («to_holds» .exit))) ⌝ }
 {
-    match list_stored::write_list(sizes, keys, multiplicities, out) {
+    match list_stored::write_list(sizes, keys, multiplicities, holds, out) {
         Written::Refused(reason) => Reading {
             answer: Read::Refused(reason),
             sizes: to_sizes,
@@ -34,6 +36,7 @@ pub fn write_then_read(
             to_sizes,
             to_keys,
             to_multiplicities,
+            to_holds,
         ),
     }
 }
@@ -44,11 +47,12 @@ pub fn read_then_write(
     sizes: Sizes,
     keys: &mut [u64],
     multiplicities: &mut [u64],
+    holds: &mut [u64],
     out: &mut [u8],
 ) -> Rewriting
-    ensures { λ r. ⌜ IsReadThenWritten (u32List sizes (now (keys .entry)) (now (multiplicities .entry))) (now (bytes .entry)) (now (out .entry)) (r .answer) (u32List (r .sizes) (now (keys .exit)) (now (multiplicities .exit))) (now (out .exit)) ⌝ }
+    ensures { λ r. ⌜ IsReadThenWritten (heldList sizes (now (keys .entry)) (now (multiplicities .entry)) (now (holds .entry))) (now (bytes .entry)) (now (out .entry)) (r .answer) (heldList (r .sizes) (now (keys .exit)) (now (multiplicities .exit)) (now (holds .exit))) (now (out .exit)) ⌝ }
 {
-    let reading = list_stored::read_list(bytes, sizes, keys, multiplicities);
+    let reading = list_stored::read_list(bytes, sizes, keys, multiplicities, holds);
     let after = reading.sizes;
     let answer = reading.answer;
     match answer {
@@ -57,7 +61,7 @@ pub fn read_then_write(
             sizes: after,
         },
         Read::Entries(_) => Rewriting {
-            answer: list_stored::write_list(after, keys, multiplicities, out),
+            answer: list_stored::write_list(after, keys, multiplicities, holds, out),
             sizes: after,
         },
     }

@@ -4,12 +4,12 @@ use mathlib.Core.Bool.{Bool, true, false, not, _||_}
 use mathlib.Core.Logic.{_⊎_, inl, inr}
 use native.Mathlib.Decide.{ℕ-discrete}
 use mathlib.Core.List.{List, map, flatMap}
-use Prim.Native.Nat.{ℕ, _≤_, _<_, zero-le}
-use native.Mathlib.Nat.{zero-add}
+use Prim.Native.Nat.{ℕ, _-_, _≤_, _<_, zero-le}
+use native.Mathlib.Nat.{zero-add, sub-zero}
 use native.Mathlib.Omega.{arith}
 use borrow.Author.Tests.{ltb-false, lt-ltb, le-ltb, eqb-true, eq-eqb, ne-eqb}
 use lib.Dec.{eqb}
-use lib.ListN.{length}
+use lib.ListN.{length, replicate}
 use lib.Seq.{sets}
 use Rattle.words.specs.declared.Judgement.the-variants.{Fine, Declined}
 use Rattle.words.specs.declared.Refusal.{Refusal}
@@ -19,15 +19,17 @@ use Rattle.words.specs.Outcomes.{Leaves}
 use Rattle.words.specs.Places.{places}
 use Rattle.words.proofs.Judgements.{or-first, or-next, or-both, decline-fine, decline-true, decline-false, decline-not-fine, first-fine, first-none}
 use Rattle.isa.specs.Entries.{entryWords, admitStored}
-use Rattle.list.specs.Lists.{U32List, u32List, capacity, used, entryAt, listShape, countFull, judgeEntryBy, judgeList}
+use Rattle.list.specs.Lists.{capacity, used, entryAt, countFull, judgeEntryBy}
 use Rattle.list.specs.Heights.{sumHeights, listHeight}
-use Rattle.list.proofs.JudgedLists.{Shaped, shaped, shape-fine}
+use Rattle.list.specs.Holds.{HeldList, heldList, heldShape, sectionList, judgeHeld}
+use Rattle.list.proofs.HeldLists.{HeldShaped, held-shaped, held-shape-fine}
 use Rattle.list_stored.specs.declared.Read.the-variants.{Entries, Refused}
 use Rattle.list_stored.specs.declared.Written.the-variants.{Length, Refused as WriteRefused}
 use Rattle.list_bytes.specs.Packed.{headWidth, storedPlaces, lengthWith, storedLength, oldLength, widthOf, bytesWith, storedBytes}
 use Rattle.list_bytes.specs.Packed.{storedN, storedHeight, storedEntry, storedMultiplicity, storedEntries}
 use Rattle.list_repeats.specs.Repeats.{repeats}
-use Rattle.list_stored.specs.Stored.{torn, judgeStored, tally, contentReason, readReason, readAll, readAnswer, writeReason, writeAll, writtenAnswer}
+use Rattle.list_stored.specs.Stored.{torn, judgeStored, tally, contentReason, readReason, readAll, readAnswer}
+use Rattle.list_stored.specs.Stored.{storingReason, writeReason, writeAll, writtenAnswer}
 use Rattle.list_bytes.proofs.StoredPlaces.{length-stored-places, stored-entries}
 use Rattle.list_bytes.proofs.Format.{width-old, width-other}
 use Rattle.list_repeats.proofs.Repeats.{or-true}
@@ -112,126 +114,127 @@ stored-fine : (s : List ℕ) (i : ℕ) → admitStored (storedEntry s i) ≡ Fin
 unfolding judgeStored judgeEntryBy countFull
 stored-fine s i e m = or-next _ e ∙ decline-false CountFull (le-ltb multiplicityLimit (storedMultiplicity s i) m)
 
-pub record Readable (l : U32List) (s : List ℕ) : Type 0 where
-  pub shape : Shaped l
+pub record Readable (h : HeldList) (s : List ℕ) : Type 0 where
+  pub shape : HeldShaped h
   pub complete : Whole s
-  pub room : storedN s ≤ capacity l
+  pub room : storedN s ≤ capacity (h .list)
   pub entries : (i : ℕ) → i < storedN s → admitStored (storedEntry s i) ≡ Fine
   pub counts : (i : ℕ) → i < storedN s → storedMultiplicity s i ≤ multiplicityLimit
   pub distinct : repeats (storedEntries s) ≡ false
   pub tallied : storedHeight s ≡ sumHeights (storedEntries s)
 
-pub readable : (l : U32List) (s : List ℕ) → readReason l s ≡ Fine → Readable l s
+pub readable : (h : HeldList) (s : List ℕ) → readReason h s ≡ Fine → Readable h s
 unfolding readReason contentReason tally
-readable l s e =
+readable h s e =
     let a = or-both _ _ e in
     let b = or-both _ _ (a .1) in
     let c = or-both _ _ (b .1) in
     let d = or-both _ _ (c .1) in
     let f = or-both _ _ (d .1) in
     record {
-      shape = shaped l (a .0);
+      shape = held-shaped h (a .0);
       complete = whole s (b .0);
-      room = ltb-false (capacity l) (storedN s) (decline-fine _ ListFull (c .0));
-      entries = λ i h. stored-told s i (first-fine (judgeStored s) 0 (storedN s) (d .0) i zero-le (rw zero-add h)) .0;
-      counts = λ i h. stored-told s i (first-fine (judgeStored s) 0 (storedN s) (d .0) i zero-le (rw zero-add h)) .1;
+      room = ltb-false (capacity (h .list)) (storedN s) (decline-fine _ ListFull (c .0));
+      entries = λ i k. stored-told s i (first-fine (judgeStored s) 0 (storedN s) (d .0) i zero-le (rw zero-add k)) .0;
+      counts = λ i k. stored-told s i (first-fine (judgeStored s) 0 (storedN s) (d .0) i zero-le (rw zero-add k)) .1;
       distinct = decline-fine _ Repeat (f .0);
       tallied = eqb-true (storedHeight s) (sumHeights (storedEntries s)) (decline-not-fine _ Tally (f .1));
     }
 
-pub readable-fine : (l : U32List) (s : List ℕ) → Readable l s → readReason l s ≡ Fine
+pub readable-fine : (h : HeldList) (s : List ℕ) → Readable h s → readReason h s ≡ Fine
 unfolding readReason contentReason tally
-readable-fine l s h =
-    or-next _ (shape-fine l (h .shape))
-    ∙ or-next _ (whole-fine s (h .complete))
-    ∙ or-next _ (decline-false ListFull (le-ltb (capacity l) (storedN s) (h .room)))
-    ∙ or-next _ (first-none _ 0 (storedN s) (λ i p q. stored-fine s i (h .entries i (omega arith)) (h .counts i (omega arith))))
-    ∙ or-next _ (decline-false Repeat (h .distinct))
-    ∙ rw (eq-eqb (storedHeight s) (sumHeights (storedEntries s)) (h .tallied))
+readable-fine h s w =
+    or-next _ (held-shape-fine h (w .shape))
+    ∙ or-next _ (whole-fine s (w .complete))
+    ∙ or-next _ (decline-false ListFull (le-ltb (capacity (h .list)) (storedN s) (w .room)))
+    ∙ or-next _ (first-none _ 0 (storedN s) (λ i p q. stored-fine s i (w .entries i (omega arith)) (w .counts i (omega arith))))
+    ∙ or-next _ (decline-false Repeat (w .distinct))
+    ∙ rw (eq-eqb (storedHeight s) (sumHeights (storedEntries s)) (w .tallied))
 
 -- reason by reason
-module _ (l : U32List) (s : List ℕ) where
-  pub read-shape : {k : Refusal} → listShape l ≡ Declined k → readReason l s ≡ Declined k
+module _ (h : HeldList) (s : List ℕ) where
+  pub read-shape : {k : Refusal} → heldShape h ≡ Declined k → readReason h s ≡ Declined k
   unfolding readReason
   read-shape e = or-first _ e
 
-  module _ (sh : listShape l ≡ Fine) where
-    pub read-torn : {k : Refusal} → torn s ≡ Declined k → readReason l s ≡ Declined k
+  module _ (sh : heldShape h ≡ Fine) where
+    pub read-torn : {k : Refusal} → torn s ≡ Declined k → readReason h s ≡ Declined k
     unfolding readReason
     read-torn e = or-next _ sh ∙ or-first _ e
 
-    pub read-full : torn s ≡ Fine → capacity l < storedN s → readReason l s ≡ Declined ListFull
+    pub read-full : torn s ≡ Fine → capacity (h .list) < storedN s → readReason h s ≡ Declined ListFull
     unfolding readReason
-    read-full e h = or-next _ sh ∙ or-next _ e ∙ or-first _ (decline-true ListFull (lt-ltb (capacity l) (storedN s) h))
+    read-full e k = or-next _ sh ∙ or-next _ e ∙ or-first _ (decline-true ListFull (lt-ltb (capacity (h .list)) (storedN s) k))
 
-    pub read-content : torn s ≡ Fine → storedN s ≤ capacity l → readReason l s ≡ contentReason s
+    pub read-content : torn s ≡ Fine → storedN s ≤ capacity (h .list) → readReason h s ≡ contentReason s
     unfolding readReason
-    read-content e h = or-next _ sh ∙ or-next _ e ∙ or-next _ (decline-false ListFull (le-ltb (capacity l) (storedN s) h))
+    read-content e k = or-next _ sh ∙ or-next _ e ∙ or-next _ (decline-false ListFull (le-ltb (capacity (h .list)) (storedN s) k))
 
   -- what is due then
-  pub read-refused : {k : Refusal} → readReason l s ≡ Declined k → Leaves (readAll l s) (readAnswer (Refused k)) l
+  pub read-refused : {k : Refusal} → readReason h s ≡ Declined k → Leaves (readAll h s) (readAnswer (Refused k)) h
   unfolding readAll
   read-refused e = rw e (record { answer = refl; left = refl })
 
-  pub read-done : (n : ℕ) (ks ms : List ℕ) → readReason l s ≡ Fine → n ≡ storedN s
-      → ks ≡ sets (l .keys) 0 (flatMap (λ i. entryWords (storedEntry s i)) (places n))
-      → ms ≡ sets (l .multiplicities) 0 (map (storedMultiplicity s) (places n))
-      → Leaves (readAll l s) (readAnswer (Entries n)) (u32List (record { capacity = capacity l; used = n }) ks ms)
+  pub read-done : (n : ℕ) (ks ms hs : List ℕ) → readReason h s ≡ Fine → n ≡ storedN s
+      → ks ≡ sets (h .list .keys) 0 (flatMap (λ i. entryWords (storedEntry s i)) (places n))
+      → ms ≡ sets (h .list .multiplicities) 0 (map (storedMultiplicity s) (places n))
+      → hs ≡ sets (h .holds) 0 (replicate (n - 0) 0)
+      → Leaves (readAll h s) (readAnswer (Entries n)) (heldList (record { capacity = capacity (h .list); used = n }) ks ms hs)
   unfolding readAll
-  read-done n ks ms e en ek em = rw (e, ek, em, en) (record { answer = refl; left = refl })
+  read-done n ks ms hs e en ek em eh = rw (e, ek, em, eh, sub-zero, en) (record { answer = refl; left = refl })
 
 -- ---- writing
 
-pub record Writable (l : U32List) (out : List ℕ) : Type 0 where
-  pub list : judgeList l ≡ Fine
-  pub distinct : repeats (map (entryAt l) (places (used l))) ≡ false
-  pub room : storedLength (used l) ≤ length out
+pub record Writable (h : HeldList) (out : List ℕ) : Type 0 where
+  pub judged : judgeHeld h ≡ Fine
+  pub distinct : repeats (map (entryAt (sectionList h)) (places (used (sectionList h)))) ≡ false
+  pub room : storedLength (used (sectionList h)) ≤ length out
 
-pub writable : (l : U32List) (out : List ℕ) → writeReason l out ≡ Fine → Writable l out
-unfolding writeReason
-writable l out e =
+pub writable : (h : HeldList) (out : List ℕ) → writeReason h out ≡ Fine → Writable h out
+unfolding writeReason storingReason
+writable h out e =
     let a = or-both _ _ e in
     let b = or-both _ _ (a .1) in
-    let r = ltb-false (length out) (storedLength (length (storedPlaces l))) (decline-fine _ Short (b .1)) in
+    let r = ltb-false (length out) (storedLength (length (storedPlaces (sectionList h)))) (decline-fine _ Short (b .1)) in
     record {
-      list = a .0;
-      distinct = ap repeats (sym (stored-entries l)) ∙ decline-fine _ Repeat (b .0);
+      judged = a .0;
+      distinct = ap repeats (sym (stored-entries (sectionList h))) ∙ decline-fine _ Repeat (b .0);
       room = rw length-stored-places at r;
     }
 
 -- reason by reason
-module _ (l : U32List) (out : List ℕ) where
-  pub write-list : {k : Refusal} → judgeList l ≡ Declined k → writeReason l out ≡ Declined k
+module _ (h : HeldList) (out : List ℕ) where
+  pub write-judged : {k : Refusal} → judgeHeld h ≡ Declined k → writeReason h out ≡ Declined k
   unfolding writeReason
-  write-list e = or-first _ e
+  write-judged e = or-first _ e
 
-  module _ (fine : judgeList l ≡ Fine) where
-    pub write-repeat : repeats (map (entryAt l) (places (used l))) ≡ true → writeReason l out ≡ Declined Repeat
-    unfolding writeReason
-    write-repeat e = or-next _ fine ∙ or-first _ (decline-true Repeat (ap repeats (stored-entries l) ∙ e))
+  module _ (fine : judgeHeld h ≡ Fine) where
+    pub write-repeat : repeats (map (entryAt (sectionList h)) (places (used (sectionList h)))) ≡ true → writeReason h out ≡ Declined Repeat
+    unfolding writeReason storingReason
+    write-repeat e = or-next _ fine ∙ or-first _ (decline-true Repeat (ap repeats (stored-entries (sectionList h)) ∙ e))
 
-    module _ (none : repeats (map (entryAt l) (places (used l))) ≡ false) where
-      pub write-short : length out < storedLength (used l) → writeReason l out ≡ Declined Short
-      unfolding writeReason
-      write-short h =
+    module _ (none : repeats (map (entryAt (sectionList h)) (places (used (sectionList h)))) ≡ false) where
+      pub write-short : length out < storedLength (used (sectionList h)) → writeReason h out ≡ Declined Short
+      unfolding writeReason storingReason
+      write-short k =
           or-next _ fine
-          ∙ or-next _ (decline-false Repeat (ap repeats (stored-entries l) ∙ none))
-          ∙ rw (length-stored-places l, lt-ltb (length out) (storedLength (used l)) h)
+          ∙ or-next _ (decline-false Repeat (ap repeats (stored-entries (sectionList h)) ∙ none))
+          ∙ rw (length-stored-places (sectionList h), lt-ltb (length out) (storedLength (used (sectionList h))) k)
 
-      pub write-fine : storedLength (used l) ≤ length out → writeReason l out ≡ Fine
-      unfolding writeReason
-      write-fine h =
+      pub write-fine : storedLength (used (sectionList h)) ≤ length out → writeReason h out ≡ Fine
+      unfolding writeReason storingReason
+      write-fine k =
           or-next _ fine
-          ∙ or-next _ (decline-false Repeat (ap repeats (stored-entries l) ∙ none))
-          ∙ rw (length-stored-places l, le-ltb (length out) (storedLength (used l)) h)
+          ∙ or-next _ (decline-false Repeat (ap repeats (stored-entries (sectionList h)) ∙ none))
+          ∙ rw (length-stored-places (sectionList h), le-ltb (length out) (storedLength (used (sectionList h))) k)
 
   -- what is due then
-  pub written-refused : {k : Refusal} → writeReason l out ≡ Declined k → Leaves (writeAll l out) (writtenAnswer (WriteRefused k)) out
+  pub written-refused : {k : Refusal} → writeReason h out ≡ Declined k → Leaves (writeAll h out) (writtenAnswer (WriteRefused k)) out
   unfolding writeAll
   written-refused e = rw e (record { answer = refl; left = refl })
 
-  pub written-done : (n h : ℕ) (after : List ℕ) → writeReason l out ≡ Fine → n ≡ storedLength (used l) → h ≡ listHeight l
-      → after ≡ sets out 0 (bytesWith h l) → Leaves (writeAll l out) (writtenAnswer (Length n)) after
+  pub written-done : (n m : ℕ) (after : List ℕ) → writeReason h out ≡ Fine → n ≡ storedLength (used (sectionList h)) → m ≡ listHeight (sectionList h)
+      → after ≡ sets out 0 (bytesWith m (sectionList h)) → Leaves (writeAll h out) (writtenAnswer (Length n)) after
   unfolding writeAll storedBytes
-  written-done n h after e en eh eb =
-      rw (e, length-stored-places l, en, eb, eh) (record { answer = refl; left = refl })
+  written-done n m after e en em eb =
+      rw (e, length-stored-places (sectionList h), en, eb, em) (record { answer = refl; left = refl })

@@ -1,5 +1,5 @@
--- Lists that hold the same admitted entries are written alike: the same answer, and the same bytes. So what is written, and 11, go by the reduced
--- entries. Assumes nothing.
+-- Lists that hold the same admitted entries with the same holds are written alike: the same answer, and the same bytes. So what is written, and 11,
+-- go by the reduced entries. Assumes nothing.
 use Prim.Native.Nat.{ℕ}
 use mathlib.Core.Path.{_≡_, refl, sym, ap, _∙_}
 use mathlib.Core.List.{List, map}
@@ -11,11 +11,13 @@ use Rattle.words.proofs.Places.{map-cong, flat-cong}
 use Rattle.isa.specs.declared.U32TableEntry.{U32TableEntry}
 use Rattle.list.specs.Lists.{U32List, used, multiplicityAt, entryAt}
 use Rattle.list.specs.Heights.{entriesAt, listHeight}
-use Rattle.list.proofs.Alike.{Alike, alike-used, alike-count, alike-judged, alike-height}
+use Rattle.list.specs.Holds.{HeldList, sectionList}
+use Rattle.list.proofs.Alike.{Alike, alike-used, alike-count, alike-height}
+use Rattle.list.proofs.HeldAlike.{alike-sections, alike-held}
 use Rattle.list_bytes.specs.Packed.{multiplicityWidth, keyBytes, storedPlaces, storedBytes}
 use Rattle.list_bytes.proofs.StoredPlaces.{length-stored-places, stored-entries}
 use Rattle.list_bytes.proofs.Format.{keysForm, countsForm, formed, stored-formed}
-use Rattle.list_stored.specs.Stored.{writeReason, writeAll}
+use Rattle.list_stored.specs.Stored.{storingReason, writeReason, writeAll}
 
 module _ (l m : U32List) (a : Alike l m) where
   entries-alike : entriesAt l (storedPlaces l) ≡ entriesAt m (storedPlaces m)
@@ -38,6 +40,18 @@ module _ (l m : U32List) (a : Alike l m) where
       ∙ rw (K, C, alike-height l m a) (ap (λ (n : ℕ). formed multiplicityWidth (entryAt m) (multiplicityAt m) n (listHeight m)) (alike-used l m a))
       ∙ sym (stored-formed m)
 
-  pub write-alike : (out : List ℕ) → writeAll l out ≡ writeAll m out
-  unfolding writeAll writeReason
-  write-alike out = rw (alike-judged l m a, entries-alike, places-alike, bytes-alike) refl
+  storing-alike : (out : List ℕ) → storingReason l out ≡ storingReason m out
+  unfolding storingReason
+  storing-alike out = rw (entries-alike, places-alike) refl
+
+pub write-alike : (g h : HeldList) → Alike (g .list) (h .list) → g .holds ≡ h .holds → (out : List ℕ) → writeAll g out ≡ writeAll h out
+unfolding writeAll writeReason
+write-alike g h a same out =
+    let b = alike-sections g h a same in
+    rw (
+      alike-held g h a same,
+      storing-alike (sectionList g) (sectionList h) b out,
+      places-alike (sectionList g) (sectionList h) b,
+      bytes-alike (sectionList g) (sectionList h) b,
+    )
+    refl

@@ -1,9 +1,10 @@
--- Stored lists (document 01, "Recording and stored lists" and "Reasons to decline"): reading and writing.
+-- Stored lists (document 01, "Recording and stored lists" and "Reasons to decline"): reading and writing. Holds are "not stored in files" (request 6):
+-- reading clears them, and a list with an open one is not written.
 use Prim.Native.Nat.{ℕ}
 use mathlib.Core.Bool.{true, not, _||_}
 use mathlib.Core.List.{List, [], _∷_, map, flatMap}
 use lib.Dec.{eqb, ltb}
-use lib.ListN.{length}
+use lib.ListN.{length, replicate}
 use lib.Seq.{sets}
 use Rattle.words.specs.Limits.{maxPlaces}
 use Rattle.words.specs.Answers.{Answer, done, declined}
@@ -13,8 +14,9 @@ use Rattle.words.specs.declared.Judgement.{Judgement}
 use Rattle.words.specs.declared.Refusal.the-variants.{ListFull, Short, Torn, Repeat, Tally}
 use Rattle.words.specs.Places.{places}
 use Rattle.isa.specs.Entries.{entryWords}
-use Rattle.list.specs.Lists.{U32List, u32List, capacity, listShape, judgeCounted, judgeList}
+use Rattle.list.specs.Lists.{U32List, u32List, capacity, judgeCounted}
 use Rattle.list.specs.Heights.{entriesAt, sumHeights}
+use Rattle.list.specs.Holds.{HeldList, heldShape, sectionList, judgeHeld}
 use Rattle.list_bytes.specs.Packed.{storedPlaces, storedLength, oldLength, storedBytes, storedN, storedHeight, storedEntry, storedMultiplicity, storedEntries}
 use Rattle.list_repeats.specs.Repeats.{repeats}
 use Rattle.list_stored.specs.declared.Read.{Read}
@@ -46,39 +48,47 @@ contentReason s =
     (orElse (declineIf (repeats (storedEntries s)) Repeat)
     (tally s))
 
--- "Read 1, 10, 6, then 2 to 5 entry by entry, 11, 12"; 6 is "on reading, N over the capacity"
-unfoldable pub readReason : U32List → List ℕ → Judgement
-readReason l s =
-    orElse (listShape l)
+-- "Read 1, 10, 6, then 2 to 5 entry by entry, 11, 12"; 6 is "on reading, N over the capacity". An open hold is no reason
+unfoldable pub readReason : HeldList → List ℕ → Judgement
+readReason h s =
+    orElse (heldShape h)
     (orElse (torn s)
-    (orElse (declineIf (ltb (capacity l) (storedN s)) ListFull)
+    (orElse (declineIf (ltb (capacity (h .list)) (storedN s)) ListFull)
     (contentReason s)))
 
 -- "Reading replaces the list, sets used to N and answers N .. Destination places past N .. are untouched."
-abbrev pub replaced : U32List → List ℕ → U32List
-replaced l s =
+abbrev pub replacedList : U32List → List ℕ → U32List
+replacedList l s =
     u32List (record { capacity = capacity l; used = storedN s })
     (sets (l .keys) 0 (flatMap (λ i. entryWords (storedEntry s i)) (places (storedN s))))
     (sets (l .multiplicities) 0 (map (storedMultiplicity s) (places (storedN s))))
 
-unfoldable pub readAll : U32List → List ℕ → Outcome U32List
-readAll l s = outcome (readReason l s) (storedN s ∷ []) l (replaced l s)
+-- "reading and any append set a key's to 0": the holds at its N places, and no others
+abbrev pub replaced : HeldList → List ℕ → HeldList
+replaced h s = record { list = replacedList (h .list) s; holds = sets (h .holds) 0 (replicate (storedN s) 0) }
+
+unfoldable pub readAll : HeldList → List ℕ → Outcome HeldList
+readAll h s = outcome (readReason h s) (storedN s ∷ []) h (replaced h s)
 
 -- what the answer of a reading means
 abbrev pub readAnswer : Read → Answer
 readAnswer (Entries n) = done (n ∷ [])
 readAnswer (Refused reason) = declined reason
 
--- "Write 1, 2 to 5 entry by entry, 11, 7"; 7 is "output bytes too few"
-unfoldable pub writeReason : U32List → List ℕ → Judgement
-writeReason l out =
-    orElse (judgeList l)
-    (orElse (declineIf (repeats (entriesAt l (storedPlaces l))) Repeat)
-    (declineIf (ltb (length out) (storedLength (length (storedPlaces l)))) Short))
+-- ".. 11, 7" of the list that is written; 7 is "output bytes too few"
+unfoldable pub storingReason : U32List → List ℕ → Judgement
+storingReason l out =
+    orElse (declineIf (repeats (entriesAt l (storedPlaces l))) Repeat)
+    (declineIf (ltb (length out) (storedLength (length (storedPlaces l)))) Short)
+
+-- "Write 1, 2 to 5 entry by entry, 11, 7"; 15 is "directly after 1 in fill, plan and write"
+unfoldable pub writeReason : HeldList → List ℕ → Judgement
+writeReason h out = orElse (judgeHeld h) (storingReason (sectionList h) out)
 
 -- "writing .. answers the length. .. bytes past the end, are untouched."
-unfoldable pub writeAll : U32List → List ℕ → Outcome (List ℕ)
-writeAll l out = outcome (writeReason l out) (storedLength (length (storedPlaces l)) ∷ []) out (sets out 0 (storedBytes l))
+unfoldable pub writeAll : HeldList → List ℕ → Outcome (List ℕ)
+writeAll h out =
+    outcome (writeReason h out) (storedLength (length (storedPlaces (sectionList h))) ∷ []) out (sets out 0 (storedBytes (sectionList h)))
 
 -- what the answer of a writing means
 abbrev pub writtenAnswer : Written → Answer

@@ -4,7 +4,7 @@ ghost use Prim.Native.Nat.{_≤_};
 ghost use lib.ListN.{length};
 ghost use Rattle.words.specs.Limits.{maxPlaces};
 ghost use Rattle.words.specs.Outcomes.{Leaves};
-ghost use Rattle.list.specs.Lists.{u32List};
+ghost use Rattle.list.specs.Holds.{heldList};
 ghost use Rattle.list_bytes.specs.Packed.{lengthWith, widthOf, storedLength, oldLength, storedN};
 ghost use Rattle.list_stored.specs.Stored.{contentReason, readReason, readAll, readAnswer, writeAll, writtenAnswer};
 ghost use Rattle.list_stored.specs.Stored.{torn as Stored·torn};
@@ -90,10 +90,16 @@ fn judge_content(bytes: &[u8], n: usize) -> Judgement
 }
 
 // The first reason against reading the bytes into the list.
-fn judge_reading(bytes: &[u8], sizes: Sizes, keys: &[u64], multiplicities: &[u64]) -> Judgement
-    ensures { λ r. ⌜ r ≡ readReason (u32List sizes (now (keys .entry)) (now (multiplicities .entry))) (now (bytes .entry)) ⌝ }
+fn judge_reading(
+    bytes: &[u8],
+    sizes: Sizes,
+    keys: &[u64],
+    multiplicities: &[u64],
+    holds: &[u64],
+) -> Judgement
+    ensures { λ r. ⌜ r ≡ readReason (heldList sizes (now (keys .entry)) (now (multiplicities .entry)) (now (holds .entry))) (now (bytes .entry)) ⌝ }
 {
-    if let Judgement::Declined(reason) = list::list_shape(sizes, keys, multiplicities) {
+    if let Judgement::Declined(reason) = list::held_shape(sizes, keys, multiplicities, holds) {
         return Judgement::Declined(reason);
     }
     if let Judgement::Declined(reason) = torn(bytes) {
@@ -106,16 +112,17 @@ fn judge_reading(bytes: &[u8], sizes: Sizes, keys: &[u64], multiplicities: &[u64
     judge_content(bytes, n)
 }
 
-// Reads stored bytes: they replace the list, and the answer is the number of entries.
+// Reads stored bytes: they replace the list, none of them held, and the answer is the number of entries.
 pub fn read_list(
     bytes: &[u8],
     sizes: Sizes,
     keys: &mut [u64],
     multiplicities: &mut [u64],
+    holds: &mut [u64],
 ) -> Reading
-    ensures { λ r. ⌜ Leaves (readAll (u32List sizes (now (keys .entry)) (now (multiplicities .entry))) (now (bytes .entry))) (readAnswer (r .answer)) (u32List (r .sizes) (now (keys .exit)) (now (multiplicities .exit))) ⌝ }
+    ensures { λ r. ⌜ Leaves (readAll (heldList sizes (now (keys .entry)) (now (multiplicities .entry)) (now (holds .entry))) (now (bytes .entry))) (readAnswer (r .answer)) (heldList (r .sizes) (now (keys .exit)) (now (multiplicities .exit)) (now (holds .exit))) ⌝ }
 {
-    match judge_reading(bytes, sizes, keys, multiplicities) {
+    match judge_reading(bytes, sizes, keys, multiplicities, holds) {
         Judgement::Declined(reason) => Reading {
             answer: Read::Refused(reason),
             sizes,
@@ -123,6 +130,7 @@ pub fn read_list(
         Judgement::Fine => {
             let n = list_bytes::stored_n(bytes);
             list_bytes::unpack(bytes, n, keys, multiplicities);
+            list::clear_places(holds, 0, n);
             Reading {
                 answer: Read::Entries(n),
                 sizes: Sizes {
@@ -135,10 +143,16 @@ pub fn read_list(
 }
 
 // Writes a list as stored bytes, and answers their number.
-pub fn write_list(sizes: Sizes, keys: &[u64], multiplicities: &[u64], out: &mut [u8]) -> Written
-    ensures { λ r. ⌜ Leaves (writeAll (u32List sizes (now (keys .entry)) (now (multiplicities .entry))) (now (out .entry))) (writtenAnswer r) (now (out .exit)) ⌝ }
+pub fn write_list(
+    sizes: Sizes,
+    keys: &[u64],
+    multiplicities: &[u64],
+    holds: &[u64],
+    out: &mut [u8],
+) -> Written
+    ensures { λ r. ⌜ Leaves (writeAll (heldList sizes (now (keys .entry)) (now (multiplicities .entry)) (now (holds .entry))) (now (out .entry))) (writtenAnswer r) (now (out .exit)) ⌝ }
 {
-    match list::judge_list(sizes, keys, multiplicities) {
+    match list::judge_held(sizes, keys, multiplicities, holds) {
         Judged::Refused(reason) => Written::Refused(reason),
         Judged::Height(height) => {
             let n = sizes.used;

@@ -20,8 +20,8 @@ use Rattle.isa.specs.Opcodes.{opPow}
 use Rattle.isa.specs.declared.U32TableEntry.{U32TableEntry}
 use Rattle.isa.specs.Entries.{dominant, height}
 use Rattle.isa.proofs.Logarithm.{height-below}
-use Rattle.list.specs.Lists.{U32List}
 use Rattle.list.specs.Heights.{sectionEntries, sumHeights, listHeight}
+use Rattle.list.specs.Holds.{HeldList, sectionList}
 use Rattle.table.specs.Columns.{Row, rowAt, rowCount, allReduced}
 use Rattle.air.specs.Check.{ConstraintsHold}
 use Rattle.air.proofs.Descent.{Descent, first-ok, bits-zero, steps-bound, rhs-bound, lhs-bound}
@@ -117,22 +117,23 @@ no-shorter table aux challenges e es own o =
     omega arith
 
 -- the height that fill answers is the list's
-filled-height : (l : U32List) (table : List ℕ) (h : ℕ) → fillAll l table .answer ≡ done (h ∷ []) → h ≡ listHeight l
+filled-height : (held : HeldList) (table : List ℕ) (h : ℕ) → fillAll held table .answer ≡ done (h ∷ []) → h ≡ listHeight (sectionList held)
 unfolding fillAll
-filled-height l table h e =
-    let height = done-fine (fillReason l table) (listHeight l ∷ []) table (filled l table) e .1 in
+filled-height held table h e =
+    let l = sectionList held in
+    let height = done-fine (fillReason held table) (listHeight l ∷ []) table (filled l table) e .1 in
     sym (ap (λ (values : List ℕ). getD values 0 0) height)
 
 -- "that table has at least as many rows as the height that filling reports for the list"
 pub no-shorter-than-filled : (table aux challenges : List ℕ) → NoShorterThanFilled table aux challenges
 unfolding listHeight
-no-shorter-than-filled table aux challenges e l own o lent h a =
-    let n = no-shorter table aux challenges e (sectionEntries l) own o in
-    let f = filled-height l lent h a in
+no-shorter-than-filled table aux challenges e held own o lent h a =
+    let n = no-shorter table aux challenges e (sectionEntries (sectionList held)) own o in
+    let f = filled-height held lent h a in
     omega arith
 
 -- the same, read from its end
 pub none-shorter-passes : (table aux challenges : List ℕ) → NoneShorterPasses table aux challenges
-none-shorter-passes table aux challenges l own o lent h a fewer passes =
-    let n = no-shorter-than-filled table aux challenges passes l own o lent h a in
+none-shorter-passes table aux challenges held own o lent h a fewer passes =
+    let n = no-shorter-than-filled table aux challenges passes held own o lent h a in
     omega arith

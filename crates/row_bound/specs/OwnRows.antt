@@ -9,8 +9,8 @@ use lib.ListN.{length, getD}
 use Rattle.isa.specs.declared.U32TableEntry.{U32TableEntry}
 use Rattle.isa.specs.Entries.{entry}
 use Rattle.words.specs.Answers.{done}
-use Rattle.list.specs.Lists.{U32List}
 use Rattle.list.specs.Heights.{sectionEntries, sumHeights}
+use Rattle.list.specs.Holds.{HeldList, sectionList}
 use Rattle.table.specs.Columns.{Row, rowAt, rowCount}
 use Rattle.air.specs.Check.{zeroAnswer, checkAll}
 use Rattle.fill.specs.Filling.{fillAll}
@@ -40,11 +40,11 @@ NoShorter table aux challenges =
 -- "at least as many rows as the height that filling reports for the list", of whatever table was lent to it
 abbrev pub NoShorterThanFilled : (table aux challenges : List ℕ) → Type 0
 NoShorterThanFilled table aux challenges =
-    checkAll table aux challenges ≡ zeroAnswer → (l : U32List) (own : ℕ → ℕ) → OwnRows table (sectionEntries l) own
-    → (lent : List ℕ) (h : ℕ) → fillAll l lent .answer ≡ done (h ∷ []) → h ≤ rowCount table
+    checkAll table aux challenges ≡ zeroAnswer → (held : HeldList) (own : ℕ → ℕ) → OwnRows table (sectionEntries (sectionList held)) own
+    → (lent : List ℕ) (h : ℕ) → fillAll held lent .answer ≡ done (h ∷ []) → h ≤ rowCount table
 
 -- "No shorter honest table": none with fewer rows than fill reports passes, if each entry of the list has a row of its own there
 abbrev pub NoneShorterPasses : (table aux challenges : List ℕ) → Type 0
 NoneShorterPasses table aux challenges =
-    (l : U32List) (own : ℕ → ℕ) → OwnRows table (sectionEntries l) own
-    → (lent : List ℕ) (h : ℕ) → fillAll l lent .answer ≡ done (h ∷ []) → rowCount table < h → checkAll table aux challenges ≢ zeroAnswer
+    (held : HeldList) (own : ℕ → ℕ) → OwnRows table (sectionEntries (sectionList held)) own
+    → (lent : List ℕ) (h : ℕ) → fillAll held lent .answer ≡ done (h ∷ []) → rowCount table < h → checkAll table aux challenges ≢ zeroAnswer

@@ -13,8 +13,9 @@ use Rattle.words.specs.Outcomes.{outcome}
 use Rattle.words.specs.declared.Judgement.{Judgement}
 use Rattle.words.specs.declared.Judgement.the-variants.{Fine, Declined}
 use Rattle.xfield.specs.Extension.{Ext, isZeroX}
-use Rattle.list.specs.Lists.{U32List, used}
+use Rattle.list.specs.Lists.{used}
 use Rattle.list.specs.Heights.{listHeight}
+use Rattle.list.specs.Holds.{HeldList, sectionList}
 use Rattle.list_record.specs.Plan.{paddedHeight}
 use Rattle.table.specs.Columns.{Row, rowAt, rowCount}
 use Rattle.air.specs.Check.{nonzero, firstIn, firstInRows, firstNonzero, checkReason, checkedAs, checkAll}
@@ -142,26 +143,26 @@ module _ (n height padded : ℕ) (few : padded ≤ maxPrintedRows) where
   unfolding paddedText
   padded-fits table aux challenges = unless-fits _ _ (extended-fits (padAll table height .left) aux challenges)
 
-calls-fit : (l : U32List) (challenges : List ℕ) (height padded : ℕ) (table aux : List ℕ)
-    → padded ≤ maxPrintedRows → length (callsText l challenges height padded table aux) ≤ maxText
+calls-fit : (h : HeldList) (challenges : List ℕ) (height padded : ℕ) (table aux : List ℕ)
+    → padded ≤ maxPrintedRows → length (callsText h challenges height padded table aux) ≤ maxText
 unfolding callsText
-calls-fit l challenges height padded table aux few =
-    unless-fits _ _ (padded-fits (used l) height padded few (fillAll l table .left) aux challenges)
+calls-fit h challenges height padded table aux few =
+    unless-fits _ _ (padded-fits (used (h .list)) height padded few (fillAll h table .left) aux challenges)
 
 -- one of two texts
 cond-fits : (t : Bool) (a b : List ℕ) → length a ≤ maxText → (t ≡ false → length b ≤ maxText) → length (cond t a b) ≤ maxText
 cond-fits true a b h g = h
 cond-fits false a b h g = g refl
 
-height-fits : (l : U32List) (challenges : List ℕ) (height padded : ℕ) → length (heightText l challenges height padded) ≤ maxText
+height-fits : (h : HeldList) (challenges : List ℕ) (height padded : ℕ) → length (heightText h challenges height padded) ≤ maxText
 unfolding heightText
-height-fits l challenges height padded =
+height-fits h challenges height padded =
     cond-fits (ltb maxPrintedRows padded) _ _ (refused-fits _)
-    (λ e. calls-fit l challenges height padded _ _ (ltb-false maxPrintedRows padded e))
+    (λ e. calls-fit h challenges height padded _ _ (ltb-false maxPrintedRows padded e))
 
-list-fits : (l : U32List) (challenges : List ℕ) → length (listText l challenges) ≤ maxText
+list-fits : (h : HeldList) (challenges : List ℕ) → length (listText h challenges) ≤ maxText
 unfolding listText
-list-fits l challenges = unless-fits _ _ (height-fits l challenges (listHeight l) (paddedHeight (listHeight l)))
+list-fits h challenges = unless-fits _ _ (height-fits h challenges (listHeight (sectionList h)) (paddedHeight (listHeight (sectionList h))))
 
 -- ---- the whole text
 

@@ -25,10 +25,11 @@ use Rattle.words.proofs.Sets.{sets-front}
 use Rattle.words.proofs.Places.{length-map}
 use Rattle.xfield.specs.declared.XFieldElement.{XFieldElement}
 use Rattle.xfield.specs.XFieldElements.{extOf}
-use Rattle.list.specs.Lists.{U32List, used, judgeList}
+use Rattle.list.specs.Lists.{used}
 use Rattle.list_record.specs.declared.Planned.{Planned}
 use Rattle.list_record.specs.declared.Planned.the-variants.{Heights, Refused as PlanRefused}
 use Rattle.list.specs.Heights.{listHeight}
+use Rattle.list.specs.Holds.{HeldList, sectionList, judgeHeld}
 use Rattle.list_record.specs.Plan.{paddedHeight, planAll, plannedAnswer}
 use Rattle.table.specs.Columns.{mainWidth, auxWidth}
 use Rattle.table.specs.Challenges.{challengeWords}
@@ -120,49 +121,49 @@ module _ {d d1 : List ℕ} {r : ℕ} (n height padded : ℕ) (table aux challeng
   unfolding paddedText
   padding-made after e p = made _ [] (e .answer) (rw (← e .left) p)
 
-module _ {d d1 : List ℕ} {r : ℕ} (l : U32List) (challenges : List ℕ) where
+module _ {d d1 : List ℕ} {r : ℕ} (h : HeldList) (challenges : List ℕ) where
   module _ (height padded : ℕ) (table aux : List ℕ) where
-    pub filling-refused : (reason : Refusal) (after : List ℕ) → Leaves (fillAll l table) (declined reason) after
-        → Put d 0 (refusedLine (refusalNumber reason)) d1 r → Put d 0 (callsText l challenges height padded table aux) d1 r
+    pub filling-refused : (reason : Refusal) (after : List ℕ) → Leaves (fillAll h table) (declined reason) after
+        → Put d 0 (refusedLine (refusalNumber reason)) d1 r → Put d 0 (callsText h challenges height padded table aux) d1 r
     unfolding callsText
     filling-refused reason after e p = refused _ reason (e .answer) p
 
-    pub filling-made : (rows : ℕ) (after : List ℕ) → Leaves (fillAll l table) (done (rows ∷ [])) after
-        → Put d 0 (paddedText (used l) height padded after aux challenges) d1 r
-        → Put d 0 (callsText l challenges height padded table aux) d1 r
+    pub filling-made : (rows : ℕ) (after : List ℕ) → Leaves (fillAll h table) (done (rows ∷ [])) after
+        → Put d 0 (paddedText (used (h .list)) height padded after aux challenges) d1 r
+        → Put d 0 (callsText h challenges height padded table aux) d1 r
     unfolding callsText
     filling-made rows after e p = made _ (rows ∷ []) (e .answer) (rw (← e .left) p)
 
   -- a padded height over 512, and one that is not
   pub height-refused : (height padded : ℕ) → maxPrintedRows < padded
-      → Put d 0 (refusedLine (refusalNumber Short)) d1 r → Put d 0 (heightText l challenges height padded) d1 r
+      → Put d 0 (refusedLine (refusalNumber Short)) d1 r → Put d 0 (heightText h challenges height padded) d1 r
   unfolding heightText
-  height-refused height padded h p = rw (lt-ltb maxPrintedRows padded h) p
+  height-refused height padded k p = rw (lt-ltb maxPrintedRows padded k) p
 
   pub height-printed : (height padded : ℕ) (table aux : List ℕ) → padded ≤ maxPrintedRows
       → table ≡ zeros (mainWidth * padded) → aux ≡ zeros (auxWidth * padded)
-      → Put d 0 (callsText l challenges height padded table aux) d1 r → Put d 0 (heightText l challenges height padded) d1 r
+      → Put d 0 (callsText h challenges height padded table aux) d1 r → Put d 0 (heightText h challenges height padded) d1 r
   unfolding heightText
-  height-printed height padded table aux h t a p = rw (le-ltb maxPrintedRows padded h, ← t, ← a) p
+  height-printed height padded table aux k t a p = rw (le-ltb maxPrintedRows padded k, ← t, ← a) p
 
-  pub plan-refused : (plan : Planned) (reason : Refusal) → plannedAnswer plan ≡ planAll l → plan ≡ PlanRefused reason
-      → Put d 0 (refusedLine (refusalNumber reason)) d1 r → Put d 0 (listText l challenges) d1 r
+  pub plan-refused : (plan : Planned) (reason : Refusal) → plannedAnswer plan ≡ planAll h → plan ≡ PlanRefused reason
+      → Put d 0 (refusedLine (refusalNumber reason)) d1 r → Put d 0 (listText h challenges) d1 r
   unfolding listText
   plan-refused plan reason e k p = refused _ reason (rw k at e) p
 
-  pub plan-made : (plan : Planned) (height padded : ℕ) → plannedAnswer plan ≡ planAll l → plan ≡ Heights height padded
-      → Put d 0 (heightText l challenges height padded) d1 r → Put d 0 (listText l challenges) d1 r
+  pub plan-made : (plan : Planned) (height padded : ℕ) → plannedAnswer plan ≡ planAll h → plan ≡ Heights height padded
+      → Put d 0 (heightText h challenges height padded) d1 r → Put d 0 (listText h challenges) d1 r
   unfolding listText planAll
-  plan-made plan height padded e k p = made _ (height ∷ padded ∷ []) (rw k at e) (go (judgeList l) (rw k at e)) where
-    go : (j : Judgement) → done (height ∷ padded ∷ []) ≡ answered j (listHeight l ∷ paddedHeight (listHeight l) ∷ [])
-        → Put d 0 (heightText l challenges (listHeight l) (paddedHeight (listHeight l))) d1 r
+  plan-made plan height padded e k p = made _ (height ∷ padded ∷ []) (rw k at e) (go (judgeHeld h) (rw k at e)) where
+    go : (j : Judgement) → done (height ∷ padded ∷ []) ≡ answered j (listHeight (sectionList h) ∷ paddedHeight (listHeight (sectionList h)) ∷ [])
+        → Put d 0 (heightText h challenges (listHeight (sectionList h)) (paddedHeight (listHeight (sectionList h)))) d1 r
     go Fine k =
-        let h : height ≡ listHeight l = ap (λ (a : Answer). getD (a .values) 0 0) k in
-        let q : padded ≡ paddedHeight (listHeight l) = ap (λ (a : Answer). getD (a .values) 1 0) k in
-        rw (← q, ← h) p
+        let g : height ≡ listHeight (sectionList h) = ap (λ (a : Answer). getD (a .values) 0 0) k in
+        let q : padded ≡ paddedHeight (listHeight (sectionList h)) = ap (λ (a : Answer). getD (a .values) 1 0) k in
+        rw (← q, ← g) p
     go (Declined reason) k = absurd (let v = ap (λ (a : Answer). length (a .values)) k in omega arith)
 
-module _ {d d1 : List ℕ} {r : ℕ} (bytes challenges : List ℕ) (after : U32List) where
+module _ {d d1 : List ℕ} {r : ℕ} (bytes challenges : List ℕ) (after : HeldList) where
   pub reading-refused : (reason : Refusal) → Leaves (readAll unusedPlaces bytes) (readAnswer (ReadRefused reason)) after
       → Put d 0 (refusedLine (refusalNumber reason)) d1 r → Put d 0 (readText bytes challenges) d1 r
   unfolding readText

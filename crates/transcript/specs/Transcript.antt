@@ -13,8 +13,9 @@ use Rattle.words.specs.Refusals.{refusalNumber, declineIf}
 use Rattle.words.specs.declared.Judgement.{Judgement}
 use Rattle.words.specs.declared.Refusal.the-variants.{Shape, Short, Torn}
 use Rattle.words.specs.Places.{places}
-use Rattle.list.specs.Lists.{U32List, u32List, used}
+use Rattle.list.specs.Lists.{used}
 use Rattle.list.specs.Heights.{listHeight}
+use Rattle.list.specs.Holds.{HeldList, heldList, sectionList}
 use Rattle.list_record.specs.Plan.{paddedHeight, planAll}
 use Rattle.list_stored.specs.Stored.{readAll}
 use Rattle.table.specs.Columns.{mainWidth, auxWidth, rowAt}
@@ -47,9 +48,9 @@ inputChallenges input = map (λ i. leAt input (8 * i) 8) (places challengeWords)
 abbrev pub zeros : ℕ → List ℕ
 zeros n = replicate n 0
 
--- "which it reads onto 2,048 places": none of them in use
-abbrev pub unusedPlaces : U32List
-unusedPlaces = u32List (record { capacity = maxPlaces; used = 0 }) (zeros (3 * maxPlaces)) (zeros maxPlaces)
+-- "which it reads onto 2,048 places": none of them in use, and none held
+abbrev pub unusedPlaces : HeldList
+unusedPlaces = heldList (record { capacity = maxPlaces; used = 0 }) (zeros (3 * maxPlaces)) (zeros maxPlaces) (zeros maxPlaces)
 
 -- ---- the text
 -- "A refusal prints `refused` and the number alone": the text of a call that is refused, or else what it leads to
@@ -93,21 +94,22 @@ paddedText n height padded table aux challenges =
     unlessRefused (padding .answer) (extendedText n height padded (padding .left) aux challenges)
 
 -- filling, then those
-unfoldable pub callsText : U32List → (challenges : List ℕ) → (height padded : ℕ) → (table aux : List ℕ) → List ℕ
-callsText l challenges height padded table aux =
-    let filling = fillAll l table in
-    unlessRefused (filling .answer) (paddedText (used l) height padded (filling .left) aux challenges)
+unfoldable pub callsText : HeldList → (challenges : List ℕ) → (height padded : ℕ) → (table aux : List ℕ) → List ℕ
+callsText h challenges height padded table aux =
+    let filling = fillAll h table in
+    unlessRefused (filling .answer) (paddedText (used (h .list)) height padded (filling .left) aux challenges)
 
 -- "then a padded height over 512 prints `refused 7`". The table that is lent has the padded height
-unfoldable pub heightText : U32List → (challenges : List ℕ) → (height padded : ℕ) → List ℕ
-heightText l challenges height padded =
+unfoldable pub heightText : HeldList → (challenges : List ℕ) → (height padded : ℕ) → List ℕ
+heightText h challenges height padded =
     cond (ltb maxPrintedRows padded)
     (refusedLine (refusalNumber Short))
-    (callsText l challenges height padded (zeros (mainWidth * padded)) (zeros (auxWidth * padded)))
+    (callsText h challenges height padded (zeros (mainWidth * padded)) (zeros (auxWidth * padded)))
 
 -- the plan, then those
-unfoldable pub listText : U32List → (challenges : List ℕ) → List ℕ
-listText l challenges = unlessRefused (planAll l) (heightText l challenges (listHeight l) (paddedHeight (listHeight l)))
+unfoldable pub listText : HeldList → (challenges : List ℕ) → List ℕ
+listText h challenges =
+    unlessRefused (planAll h) (heightText h challenges (listHeight (sectionList h)) (paddedHeight (listHeight (sectionList h))))
 
 -- reading, then those
 unfoldable pub readText : (bytes challenges : List ℕ) → List ℕ

@@ -5,7 +5,7 @@ ghost use lib.ListN.{length};
 ghost use Rattle.words.specs.Outcomes.{Leaves};
 ghost use Rattle.words.specs.Refusals.{refusalNumber};
 ghost use Rattle.xfield.specs.XFieldElements.{extOf};
-ghost use Rattle.list.specs.Lists.{u32List};
+ghost use Rattle.list.specs.Holds.{heldList};
 ghost use Rattle.sums.specs.RunningSum.{elementWords};
 ghost use Rattle.table.specs.Columns.{mainWidth};
 ghost use Rattle.check_table.specs.Verdicts.{verdictAnswer};
@@ -169,6 +169,7 @@ fn put_calls(
     sizes: Sizes,
     keys: &[u64],
     multiplicities: &[u64],
+    holds: &[u64],
     challenges: &[u64],
     height: u64,
     padded: usize,
@@ -176,9 +177,9 @@ fn put_calls(
     aux: &mut [u64],
 ) -> usize
     requires { ⌜ Printable (now out) (now table) padded ⌝ }
-    ensures { λ r. ⌜ Put (now (out .entry)) 0 (callsText (u32List sizes (now (keys .entry)) (now (multiplicities .entry))) (now (challenges .entry)) height padded (now (table .entry)) (now (aux .entry))) (now (out .exit)) r ⌝ }
+    ensures { λ r. ⌜ Put (now (out .entry)) 0 (callsText (heldList sizes (now (keys .entry)) (now (multiplicities .entry)) (now (holds .entry))) (now (challenges .entry)) height padded (now (table .entry)) (now (aux .entry))) (now (out .exit)) r ⌝ }
 {
-    match fill::fill(sizes, keys, multiplicities, table) {
+    match fill::fill(sizes, keys, multiplicities, holds, table) {
         Filled::Refused(reason) => put_reason(out, reason),
         Filled::Rows(_) => {
             let n = sizes.used;
@@ -193,12 +194,13 @@ fn put_height(
     sizes: Sizes,
     keys: &[u64],
     multiplicities: &[u64],
+    holds: &[u64],
     challenges: &[u64],
     height: u64,
     padded: u64,
 ) -> usize
     requires { ⌜ maxText ≤ length (now out) ⌝ }
-    ensures { λ r. ⌜ Put (now (out .entry)) 0 (heightText (u32List sizes (now (keys .entry)) (now (multiplicities .entry))) (now (challenges .entry)) height padded) (now (out .exit)) r ⌝ }
+    ensures { λ r. ⌜ Put (now (out .entry)) 0 (heightText (heldList sizes (now (keys .entry)) (now (multiplicities .entry)) (now (holds .entry))) (now (challenges .entry)) height padded) (now (out .exit)) r ⌝ }
 {
     if (MAX_PRINTED_ROWS as u64) < padded {
         return put_reason(out, Refusal::Short);
@@ -213,6 +215,7 @@ fn put_height(
         sizes,
         keys,
         multiplicities,
+        holds,
         challenges,
         height,
         rows,
@@ -227,15 +230,25 @@ fn put_list(
     sizes: Sizes,
     keys: &[u64],
     multiplicities: &[u64],
+    holds: &[u64],
     challenges: &[u64],
 ) -> usize
     requires { ⌜ maxText ≤ length (now out) ⌝ }
-    ensures { λ r. ⌜ Put (now (out .entry)) 0 (listText (u32List sizes (now (keys .entry)) (now (multiplicities .entry))) (now (challenges .entry))) (now (out .exit)) r ⌝ }
+    ensures { λ r. ⌜ Put (now (out .entry)) 0 (listText (heldList sizes (now (keys .entry)) (now (multiplicities .entry)) (now (holds .entry))) (now (challenges .entry))) (now (out .exit)) r ⌝ }
 {
-    match list_record::plan(sizes, keys, multiplicities) {
+    match list_record::plan(sizes, keys, multiplicities, holds) {
         Planned::Refused(reason) => put_reason(out, reason),
         Planned::Heights { height, padded } => {
-            put_height(out, sizes, keys, multiplicities, challenges, height, padded)
+            put_height(
+                out,
+                sizes,
+                keys,
+                multiplicities,
+                holds,
+                challenges,
+                height,
+                padded,
+            )
         }
     }
 }
@@ -247,16 +260,17 @@ fn put_stored(out: &mut [u8], bytes: &[u8], challenges: &[u64]) -> usize
 {
     let mut keys = [0u64; 3 * MAX_PLACES];
     let mut multiplicities = [0u64; MAX_PLACES];
+    let mut holds = [0u64; MAX_PLACES];
     let sizes = Sizes {
         capacity: MAX_PLACES,
         used: 0,
     };
-    let reading = list_stored::read_list(bytes, sizes, &mut keys, &mut multiplicities);
+    let reading = list_stored::read_list(bytes, sizes, &mut keys, &mut multiplicities, &mut holds);
     let after = reading.sizes;
     let answer = reading.answer;
     match answer {
         Read::Refused(reason) => put_reason(out, reason),
-        Read::Entries(_) => put_list(out, after, &keys, &multiplicities, challenges),
+        Read::Entries(_) => put_list(out, after, &keys, &multiplicities, &holds, challenges),
     }
 }
 

@@ -4,13 +4,11 @@
 // those stated are always untouched.
 ghost use mathlib.Core.Path.{_≡_};
 ghost use Rattle.isa.specs.Entries.{entry};
-ghost use Rattle.list_record.specs.Plan.{planAll};
-ghost use Rattle.list_record.specs.Recording.{recordAll};
-ghost use Rattle.list_replay.specs.Replay.{replayAll};
 ghost use Rattle.batches.specs.Batches.{batchAll};
-ghost use Rattle.list_stored.specs.Stored.{readAll, writeAll};
-ghost use Rattle.c_answers.specs.Exports.{lentList, lentDue, Exported, Reported};
-ghost use Rattle.c_lists.specs.ListAnswers.{withUsed, compareAll};
+ghost use Rattle.c_answers.specs.Exports.{lentList, lentDue, Exported};
+ghost use Rattle.c_lists.specs.ListAnswers.{compareAll};
+ghost use Rattle.c_lists.specs.ListAnswers.{RecordAnswers, RecordLeaves, HoldAnswers, HoldLeaves, ConfirmLeaves, DropLeaves};
+ghost use Rattle.c_lists.specs.ListAnswers.{ReplayAnswers, ReplayLeaves, PlanAnswers, ReadAnswers, ReadLeaves, WriteAnswers, WriteLeaves};
 ghost use Rattle.fill.specs.Padding.{padAll};
 ghost use Rattle.c_tables.specs.TableAnswers.{FillAnswers, FillLeaves, ExtendAnswers, ExtendLeaves};
 ghost use Rattle.c_tables.specs.TableAnswers.{CheckAnswers, SaysZeroIff, SaysZeroSound, SaysZeroSums};
@@ -22,11 +20,11 @@ ghost use Rattle.c_lookups.specs.LookupAnswers.{lentCascade, lentLookups, looke
 
 // The number of these signatures. It is raised whenever one of them changes, and not where a function is added: here, in the name below, in include/u32_table.h and in the Rust
 // crate. Both name the symbol, so a program does not link with a library of other signatures.
-const ABI: u64 = 1;
+const ABI: u64 = 2;
 
 #[no_mangle]
-pub extern "C" fn u32_table_abi_1() -> u64
-    ensures { λ r. ⌜ r ≡ 1 ⌝ }
+pub extern "C" fn u32_table_abi_2() -> u64
+    ensures { λ r. ⌜ r ≡ 2 ⌝ }
 {
     ABI
 }
@@ -38,25 +36,85 @@ pub extern "C" fn u32_table_record(
     used: usize,
     keys: &mut [u64],
     multiplicities: &mut [u64],
+    holds: &mut [u64],
     opcode: u64,
     left_operand: u64,
     right_operand: u64,
     answers: &mut [u64],
 ) -> u64
-    ensures answers { λ r. ⌜ Exported 2 (withUsed (recordAll (lentList capacity used (now (keys .entry)) (now (multiplicities .entry))) (entry opcode «left_operand» «right_operand»))) (now (answers .entry)) r (now (answers .exit)) ⌝ }
-    ensures keys { λ _. ⌜ now (keys .exit) ≡ lentDue 2 (now (answers .entry)) (now (keys .entry)) (recordAll (lentList capacity used (now (keys .entry)) (now (multiplicities .entry))) (entry opcode «left_operand» «right_operand») .left .keys) ⌝ }
-    ensures multiplicities { λ _. ⌜ now (multiplicities .exit) ≡ lentDue 2 (now (answers .entry)) (now (multiplicities .entry)) (recordAll (lentList capacity used (now (keys .entry)) (now (multiplicities .entry))) (entry opcode «left_operand» «right_operand») .left .multiplicities) ⌝ }
+    ensures answers { λ r. ⌜ RecordAnswers (lentList capacity used (now (keys .entry)) (now (multiplicities .entry)) (now (holds .entry))) (entry opcode «left_operand» «right_operand») (now (answers .entry)) r (now (answers .exit)) ⌝ }
+    ensures list { λ _. ⌜ RecordLeaves (lentList capacity used (now (keys .entry)) (now (multiplicities .entry)) (now (holds .entry))) (entry opcode «left_operand» «right_operand») (now (answers .entry)) (now (keys .exit)) (now (multiplicities .exit)) (now (holds .exit)) ⌝ }
 {
     c_lists::record_entry(
         capacity,
         used,
         keys,
         multiplicities,
+        holds,
         opcode,
         left_operand,
         right_operand,
         answers,
     )
+}
+
+// Answers: the key's position, and the places used afterwards.
+#[no_mangle]
+pub extern "C" fn u32_table_hold(
+    capacity: usize,
+    used: usize,
+    keys: &mut [u64],
+    multiplicities: &mut [u64],
+    holds: &mut [u64],
+    opcode: u64,
+    left_operand: u64,
+    right_operand: u64,
+    answers: &mut [u64],
+) -> u64
+    ensures answers { λ r. ⌜ HoldAnswers (lentList capacity used (now (keys .entry)) (now (multiplicities .entry)) (now (holds .entry))) (entry opcode «left_operand» «right_operand») (now (answers .entry)) r (now (answers .exit)) ⌝ }
+    ensures list { λ _. ⌜ HoldLeaves (lentList capacity used (now (keys .entry)) (now (multiplicities .entry)) (now (holds .entry))) (entry opcode «left_operand» «right_operand») (now (answers .entry)) (now (keys .exit)) (now (multiplicities .exit)) (now (holds .exit)) ⌝ }
+{
+    c_lists::hold_entry(
+        capacity,
+        used,
+        keys,
+        multiplicities,
+        holds,
+        opcode,
+        left_operand,
+        right_operand,
+        answers,
+    )
+}
+
+// It has no answers besides the number.
+#[no_mangle]
+pub extern "C" fn u32_table_confirm(
+    capacity: usize,
+    used: usize,
+    keys: &[u64],
+    multiplicities: &mut [u64],
+    holds: &mut [u64],
+    position: usize,
+) -> u64
+    ensures { λ r. ⌜ ConfirmLeaves (lentList capacity used (now (keys .entry)) (now (multiplicities .entry)) (now (holds .entry))) position r (now (multiplicities .exit)) (now (holds .exit)) ⌝ }
+{
+    c_lists::confirm(capacity, used, keys, multiplicities, holds, position)
+}
+
+// It has no answers besides the number.
+#[no_mangle]
+pub extern "C" fn u32_table_drop(
+    capacity: usize,
+    used: usize,
+    keys: &[u64],
+    multiplicities: &[u64],
+    holds: &mut [u64],
+    position: usize,
+) -> u64
+    ensures { λ r. ⌜ DropLeaves (lentList capacity used (now (keys .entry)) (now (multiplicities .entry)) (now (holds .entry))) position r (now (holds .exit)) ⌝ }
+{
+    c_lists::drop_hold(capacity, used, keys, multiplicities, holds, position)
 }
 
 // Answers, on a refusal too: the steps done, and the places used afterwards.
@@ -66,14 +124,14 @@ pub extern "C" fn u32_table_replay(
     used: usize,
     keys: &mut [u64],
     multiplicities: &mut [u64],
+    holds: &mut [u64],
     trace: &[u64],
     answers: &mut [u64],
 ) -> u64
-    ensures answers { λ r. ⌜ Reported 2 (withUsed (replayAll (lentList capacity used (now (keys .entry)) (now (multiplicities .entry))) (now (trace .entry)))) (now (answers .entry)) r (now (answers .exit)) ⌝ }
-    ensures keys { λ _. ⌜ now (keys .exit) ≡ lentDue 2 (now (answers .entry)) (now (keys .entry)) (replayAll (lentList capacity used (now (keys .entry)) (now (multiplicities .entry))) (now (trace .entry)) .left .keys) ⌝ }
-    ensures multiplicities { λ _. ⌜ now (multiplicities .exit) ≡ lentDue 2 (now (answers .entry)) (now (multiplicities .entry)) (replayAll (lentList capacity used (now (keys .entry)) (now (multiplicities .entry))) (now (trace .entry)) .left .multiplicities) ⌝ }
+    ensures answers { λ r. ⌜ ReplayAnswers (lentList capacity used (now (keys .entry)) (now (multiplicities .entry)) (now (holds .entry))) (now (trace .entry)) (now (answers .entry)) r (now (answers .exit)) ⌝ }
+    ensures list { λ _. ⌜ ReplayLeaves (lentList capacity used (now (keys .entry)) (now (multiplicities .entry)) (now (holds .entry))) (now (trace .entry)) (now (answers .entry)) (now (keys .exit)) (now (multiplicities .exit)) (now (holds .exit)) ⌝ }
 {
-    c_lists::replay(capacity, used, keys, multiplicities, trace, answers)
+    c_lists::replay(capacity, used, keys, multiplicities, holds, trace, answers)
 }
 
 // Answers: 0 where the first entry is less, 1 where the two are equal, 2 where it is greater.
@@ -107,11 +165,12 @@ pub extern "C" fn u32_table_plan(
     used: usize,
     keys: &[u64],
     multiplicities: &[u64],
+    holds: &[u64],
     answers: &mut [u64],
 ) -> u64
-    ensures { λ r. ⌜ Exported 2 (planAll (lentList capacity used (now (keys .entry)) (now (multiplicities .entry)))) (now (answers .entry)) r (now (answers .exit)) ⌝ }
+    ensures { λ r. ⌜ PlanAnswers (lentList capacity used (now (keys .entry)) (now (multiplicities .entry)) (now (holds .entry))) (now (answers .entry)) r (now (answers .exit)) ⌝ }
 {
-    c_lists::plan(capacity, used, keys, multiplicities, answers)
+    c_lists::plan(capacity, used, keys, multiplicities, holds, answers)
 }
 
 // Answers: the number of entries, which is the number of places used afterwards.
@@ -122,13 +181,13 @@ pub extern "C" fn u32_table_read(
     used: usize,
     keys: &mut [u64],
     multiplicities: &mut [u64],
+    holds: &mut [u64],
     answers: &mut [u64],
 ) -> u64
-    ensures answers { λ r. ⌜ Exported 1 (readAll (lentList capacity used (now (keys .entry)) (now (multiplicities .entry))) (now (bytes .entry)) .answer) (now (answers .entry)) r (now (answers .exit)) ⌝ }
-    ensures keys { λ _. ⌜ now (keys .exit) ≡ lentDue 1 (now (answers .entry)) (now (keys .entry)) (readAll (lentList capacity used (now (keys .entry)) (now (multiplicities .entry))) (now (bytes .entry)) .left .keys) ⌝ }
-    ensures multiplicities { λ _. ⌜ now (multiplicities .exit) ≡ lentDue 1 (now (answers .entry)) (now (multiplicities .entry)) (readAll (lentList capacity used (now (keys .entry)) (now (multiplicities .entry))) (now (bytes .entry)) .left .multiplicities) ⌝ }
+    ensures answers { λ r. ⌜ ReadAnswers (lentList capacity used (now (keys .entry)) (now (multiplicities .entry)) (now (holds .entry))) (now (bytes .entry)) (now (answers .entry)) r (now (answers .exit)) ⌝ }
+    ensures list { λ _. ⌜ ReadLeaves (lentList capacity used (now (keys .entry)) (now (multiplicities .entry)) (now (holds .entry))) (now (bytes .entry)) (now (answers .entry)) (now (keys .exit)) (now (multiplicities .exit)) (now (holds .exit)) ⌝ }
 {
-    c_lists::read(bytes, capacity, used, keys, multiplicities, answers)
+    c_lists::read(bytes, capacity, used, keys, multiplicities, holds, answers)
 }
 
 // Answers: the number of bytes written.
@@ -138,13 +197,14 @@ pub extern "C" fn u32_table_write(
     used: usize,
     keys: &[u64],
     multiplicities: &[u64],
+    holds: &[u64],
     out: &mut [u8],
     answers: &mut [u64],
 ) -> u64
-    ensures answers { λ r. ⌜ Exported 1 (writeAll (lentList capacity used (now (keys .entry)) (now (multiplicities .entry))) (now (out .entry)) .answer) (now (answers .entry)) r (now (answers .exit)) ⌝ }
-    ensures bytes { λ _. ⌜ now (out .exit) ≡ lentDue 1 (now (answers .entry)) (now (out .entry)) (writeAll (lentList capacity used (now (keys .entry)) (now (multiplicities .entry))) (now (out .entry)) .left) ⌝ }
+    ensures answers { λ r. ⌜ WriteAnswers (lentList capacity used (now (keys .entry)) (now (multiplicities .entry)) (now (holds .entry))) (now (out .entry)) (now (answers .entry)) r (now (answers .exit)) ⌝ }
+    ensures bytes { λ _. ⌜ WriteLeaves (lentList capacity used (now (keys .entry)) (now (multiplicities .entry)) (now (holds .entry))) (now (out .entry)) (now (answers .entry)) (now (out .exit)) ⌝ }
 {
-    c_lists::write(capacity, used, keys, multiplicities, out, answers)
+    c_lists::write(capacity, used, keys, multiplicities, holds, out, answers)
 }
 
 // Answers: the height.
@@ -154,13 +214,14 @@ pub extern "C" fn u32_table_fill(
     used: usize,
     keys: &[u64],
     multiplicities: &[u64],
+    holds: &[u64],
     table: &mut [u64],
     answers: &mut [u64],
 ) -> u64
-    ensures answers { λ r. ⌜ FillAnswers capacity used (now (keys .entry)) (now (multiplicities .entry)) (now (table .entry)) (now (answers .entry)) r (now (answers .exit)) ⌝ }
-    ensures table { λ _. ⌜ FillLeaves capacity used (now (keys .entry)) (now (multiplicities .entry)) (now (table .entry)) (now (answers .entry)) (now (table .exit)) ⌝ }
+    ensures answers { λ r. ⌜ FillAnswers (lentList capacity used (now (keys .entry)) (now (multiplicities .entry)) (now (holds .entry))) (now (table .entry)) (now (answers .entry)) r (now (answers .exit)) ⌝ }
+    ensures table { λ _. ⌜ FillLeaves (lentList capacity used (now (keys .entry)) (now (multiplicities .entry)) (now (holds .entry))) (now (table .entry)) (now (answers .entry)) (now (table .exit)) ⌝ }
 {
-    c_tables::fill(capacity, used, keys, multiplicities, table, answers)
+    c_tables::fill(capacity, used, keys, multiplicities, holds, table, answers)
 }
 
 // It has no answers besides the number.

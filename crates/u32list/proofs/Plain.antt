@@ -16,8 +16,8 @@ use Rattle.words.specs.declared.Refusal.the-variants.{Shape, Short, Torn}
 use Rattle.words.specs.declared.Judgement.{Judgement}
 use Rattle.words.specs.declared.Judgement.the-variants.{Fine, Declined}
 use Rattle.words.proofs.Outcomes.{outcome-done}
-use Rattle.list.specs.Lists.{U32List, used, judgeList}
 use Rattle.list.specs.Heights.{listHeight}
+use Rattle.list.specs.Holds.{HeldList, sectionList, judgeHeld}
 use Rattle.list_record.specs.Plan.{paddedHeight, planAll}
 use Rattle.list_record.proofs.PaddedHeight.{padded-at-least, padded-positive}
 use Rattle.list_stored.specs.Stored.{readReason, readAll}
@@ -56,7 +56,7 @@ module _ (s : List ℕ) where
   unfolding readAll
   read-fine e = outcome-done (readReason unusedPlaces s) _ _ _ e
 
-  list-fine : readAll unusedPlaces s .answer .number ≡ 0 → judgeList (readAll unusedPlaces s .left) ≡ Fine
+  list-fine : readAll unusedPlaces s .answer .number ≡ 0 → judgeHeld (readAll unusedPlaces s .left) ≡ Fine
   list-fine e = read-list-fine unusedPlaces s (read-fine e)
 
 -- ---- a table of as many rows as the padded height
@@ -74,31 +74,31 @@ fresh-shape padded few =
     let r = fresh-rows padded in
     rw (eq-eqb (length (fresh padded) % mainWidth) 0 (omega arith), le-ltb maxRows (rowCount (fresh padded)) (omega arith))
 
-module _ (l : U32List) (fine : judgeList l ≡ Fine) (challenges : List ℕ) (padded : ℕ) (enough : listHeight l ≤ padded) (some : 1 ≤ padded)
-    (few : padded ≤ maxPrintedRows) where
-  fill-fine : fillReason l (fresh padded) ≡ Fine
+module _ (h : HeldList) (fine : judgeHeld h ≡ Fine) (challenges : List ℕ) (padded : ℕ) (enough : listHeight (sectionList h) ≤ padded)
+    (some : 1 ≤ padded) (few : padded ≤ maxPrintedRows) where
+  fill-fine : fillReason h (fresh padded) ≡ Fine
   unfolding fillReason
   fill-fine =
       let r = fresh-rows padded in
-      rw (fresh-shape padded few, fine, le-ltb (rowCount (fresh padded)) (listHeight l) (omega arith))
+      rw (fresh-shape padded few, fine, le-ltb (rowCount (fresh padded)) (listHeight (sectionList h)) (omega arith))
 
-  calls-plainly : callsText l challenges (listHeight l) padded (fresh padded) (zeros (auxWidth * padded))
-      ≡ plainTable l challenges (listHeight l) padded
+  calls-plainly : callsText h challenges (listHeight (sectionList h)) padded (fresh padded) (zeros (auxWidth * padded))
+      ≡ plainTable h challenges (listHeight (sectionList h)) padded
   unfolding callsText paddedText extendedText checkedText plainTable
   calls-plainly =
-      let height = listHeight l in
+      let height = listHeight (sectionList h) in
       let table = fresh padded in
       let aux = zeros (auxWidth * padded) in
-      let filled = fill-answer l table fill-fine in
-      let pads = after-fill l table height filled .pad-done in
-      let extension = extendAll (paddedTable l table height) aux challenges in
+      let filled = fill-answer h table fill-fine in
+      let pads = after-fill h table height filled .pad-done in
+      let extension = extendAll (paddedTable h table height) aux challenges in
       let r = fresh-rows padded in
       text-made _ (height ∷ []) filled
       ∙ text-made _ [] pads
       ∙ unless-same (extension .answer) _ _
       (λ e.
-      let none : NoneRefuses l table aux challenges height (extension .answer .values) = record { fill = filled; pad = pads; extend = answer-done (extension .answer) e } in
-      let zero = four-calls l table aux challenges height (extension .answer .values) (omega arith) none .zero in
+      let none : NoneRefuses h table aux challenges height (extension .answer .values) = record { fill = filled; pad = pads; extend = answer-done (extension .answer) e } in
+      let zero = four-calls h table aux challenges height (extension .answer .values) (omega arith) none .zero in
       rw zero (text-made _ [] refl))
 
 -- ---- the text of a list, of stored bytes, of the input
@@ -108,21 +108,21 @@ cond-same : (t : Bool) (a x y : List ℕ) → (t ≡ false → x ≡ y) → cond
 cond-same true a x y f = refl
 cond-same false a x y f = f refl
 
-list-plainly : (l : U32List) (challenges : List ℕ) → judgeList l ≡ Fine
-    → listText l challenges ≡ plainList l challenges (listHeight l) (paddedHeight (listHeight l))
+list-plainly : (h : HeldList) (challenges : List ℕ) → judgeHeld h ≡ Fine
+    → listText h challenges ≡ plainList h challenges (listHeight (sectionList h)) (paddedHeight (listHeight (sectionList h)))
 unfolding listText heightText planAll plainList
-list-plainly l challenges fine =
-    let padded = paddedHeight (listHeight l) in
-    text-made _ (listHeight l ∷ padded ∷ []) (rw fine)
+list-plainly h challenges fine =
+    let padded = paddedHeight (listHeight (sectionList h)) in
+    text-made _ (listHeight (sectionList h) ∷ padded ∷ []) (rw fine)
     ∙ cond-same (ltb maxPrintedRows padded) _ _ _
     (λ e.
-    calls-plainly l fine challenges padded (padded-at-least (listHeight l)) (padded-positive (listHeight l)) (ltb-false maxPrintedRows padded e))
+    calls-plainly h fine challenges padded (padded-at-least (listHeight (sectionList h))) (padded-positive (listHeight (sectionList h))) (ltb-false maxPrintedRows padded e))
 
 read-plainly : (s challenges : List ℕ)
     → readText s challenges
     ≡ unlessRefused (readAll unusedPlaces s .answer)
-    (plainList (readAll unusedPlaces s .left) challenges (listHeight (readAll unusedPlaces s .left))
-    (paddedHeight (listHeight (readAll unusedPlaces s .left))))
+    (plainList (readAll unusedPlaces s .left) challenges (listHeight (sectionList (readAll unusedPlaces s .left)))
+    (paddedHeight (listHeight (sectionList (readAll unusedPlaces s .left)))))
 unfolding readText
 read-plainly s challenges =
     unless-same (readAll unusedPlaces s .answer) _ _ (λ e. list-plainly (readAll unusedPlaces s .left) challenges (list-fine s e))

@@ -22,8 +22,9 @@ use Rattle.words.specs.Places.{placesFrom}
 use Rattle.isa.specs.Opcodes.{isOpcode}
 use Rattle.isa.specs.Entries.{judgeAsItIs, judgeEntry, admitStored, admitted, admit, dominant, heightOf, height}
 use Rattle.isa.specs.PlainFunctions.{floorLog2}
-use Rattle.list.specs.Lists.{U32List, u32List, keyAt, multiplicityAt, entryAt, listShape, countFull, judgeEntryBy, judgePlaceBy, judgeList}
-use Rattle.list.specs.Heights.{getsSection, sectionPlacesTo, sectionPlaces, entriesAt, sumHeights, listHeight}
+use Rattle.list.specs.Lists.{keyAt, multiplicityAt, entryAt, listShape, countFull, judgeEntryBy, judgePlaceBy, judgeList}
+use Rattle.list.specs.Heights.{sectionPlaces, entriesAt, sumHeights, listHeight}
+use Rattle.list.specs.Holds.{HeldList, heldList, holdAt, heldShape, judgeHold, openHold, sectionList, judgeHeld}
 use Rattle.list_record.specs.Plan.{paddedHeight, planAll}
 use Rattle.list_bytes.specs.Packed.{storedN, storedHeight, storedEntry, widthOf, storedMultiplicity}
 use Rattle.list_repeats.specs.Repeats.{occurs, repeats}
@@ -50,8 +51,8 @@ use Rattle.u32list_example.proofs.Lines.{lineOf, lines-join, lines-of-w
 
 -- ---- reading
 -- the list: one of 2,048 places in use
-abbrev list : U32List
-list = u32List (record { capacity = 2048; used = 1 }) (14 ∷ 3 ∷ 1 ∷ replicate 6141 0) (2 ∷ replicate 2047 0)
+abbrev list : HeldList
+list = heldList (record { capacity = 2048; used = 1 }) (14 ∷ 3 ∷ 1 ∷ replicate 6141 0) (2 ∷ replicate 2047 0) (0 ∷ replicate 2047 0)
 
 abbrev challenges : List ℕ
 challenges = 1 ∷ replicate 14 0
@@ -61,11 +62,11 @@ unfolding inputChallenges leAt placesFrom
 challenges-are = refl
 
 reading-is : readAll unusedPlaces (drop challengeBytes input) ≡ record { answer = done (1 ∷ []); left = list }
-unfolding readAll readReason torn storedN storedHeight storedEntry widthOf storedMultiplicity contentReason judgeStored judgeEntryBy countFull admitStored admit judgeEntry judgeAsItIs isOpcode firstReason occurs repeats tally leAt listShape height heightOf dominant admitted floorLog2 placesFrom sumHeights flatMap
+unfolding readAll readReason torn storedN storedHeight storedEntry widthOf storedMultiplicity contentReason judgeStored judgeEntryBy countFull admitStored admit judgeEntry judgeAsItIs isOpcode firstReason occurs repeats tally leAt heldShape listShape height heightOf dominant admitted floorLog2 placesFrom sumHeights flatMap
 reading-is = refl
 
-height-is : listHeight list ≡ 3
-unfolding listHeight getsSection sectionPlacesTo entriesAt sumHeights height heightOf dominant admitted entryAt keyAt floorLog2
+height-is : listHeight (sectionList list) ≡ 3
+unfolding sectionList listHeight placesFrom entriesAt sumHeights height heightOf dominant admitted entryAt keyAt floorLog2
 height-is = refl
 
 padded-height-is : paddedHeight 3 ≡ 256
@@ -73,7 +74,7 @@ unfolding paddedHeight
 padded-height-is = refl
 
 plan-is : planAll list ≡ done (3 ∷ 256 ∷ [])
-unfolding planAll paddedHeight judgeList listShape judgePlaceBy judgeEntryBy countFull entryAt keyAt multiplicityAt judgeEntry judgeAsItIs isOpcode firstReason listHeight getsSection sectionPlacesTo entriesAt sumHeights height heightOf dominant admitted floorLog2
+unfolding planAll paddedHeight judgeHeld heldShape openHold judgeHold holdAt sectionList judgeList listShape judgePlaceBy judgeEntryBy countFull entryAt keyAt multiplicityAt judgeEntry judgeAsItIs isOpcode firstReason listHeight placesFrom entriesAt sumHeights height heightOf dominant admitted floorLog2
 plan-is = refl
 
 -- ---- the inverses that occur
@@ -120,7 +121,7 @@ abbrev aux : List ℕ
 aux = zeros 768
 
 fill-fine : fillReason list table ≡ Fine
-unfolding fillReason tableShape judgeList listShape judgePlaceBy judgeEntryBy countFull entryAt keyAt multiplicityAt judgeEntry judgeAsItIs isOpcode firstReason listHeight getsSection sectionPlacesTo entriesAt sumHeights height heightOf dominant admitted floorLog2
+unfolding fillReason tableShape judgeHeld heldShape openHold judgeHold holdAt sectionList judgeList listShape judgePlaceBy judgeEntryBy countFull entryAt keyAt multiplicityAt judgeEntry judgeAsItIs isOpcode firstReason listHeight placesFrom entriesAt sumHeights height heightOf dominant admitted floorLog2
 fill-fine = refl
 
 abbrev row : (a b c d e f g h i j : ℕ) → Row
@@ -149,11 +150,11 @@ section-rows =
 abbrev padding : Row
 padding = row 0 0 15651782846776010939 14 0 0 0 0 0 0
 
-sections-are : sectionsAt list (sectionPlaces list) ≡ section-rows
-unfolding sectionPlacesTo getsSection entryAt keyAt multiplicityAt admitted sectionsAt section sectionFrom isEnd ending carry carryAnd addF mulF
+sections-are : sectionsAt (sectionList list) (sectionPlaces (sectionList list)) ≡ section-rows
+unfolding sectionList placesFrom entryAt keyAt multiplicityAt admitted sectionsAt section sectionFrom isEnd ending carry carryAnd addF mulF
 sections-are = rw (bits-0, bits-1, bits-2, inverse-0, inverse-1, inverse-3) refl
 
-filled : Filled list table (listHeight list)
+filled : Filled list table (listHeight (sectionList list))
 filled = fill-filled list table fill-fine
 
 rows-are : filled .sections .all-rows ≡ section-rows
@@ -164,37 +165,37 @@ unfolding paddingRow
 final-rows = rw (rows-are, height-is, bits-0) refl
 
 -- ---- pad, extend, check: from the claim over the four calls, by the one first row
-first-rows : firstRows list ≡ first-row ∷ []
+first-rows : firstRows (sectionList list) ≡ first-row ∷ []
 unfolding copyFlag1
 first-rows = sym (filled .sections .first-rows) ∙ ap copyFlag1 rows-are
 
-refuses-nothing : extendRefusals list table aux challenges ≡ Fine
+refuses-nothing : extendRefusals (sectionList list) table aux challenges ≡ Fine
 unfolding extendRefusals auxShape challengesShape allReduced noneZero challengesOf elementAt denominator compressedRow addX subX scaleX addF subF mulF isZeroX equalX
 refuses-nothing = rw first-rows refl
 
-sum-is : sumFrom (challengesOf challenges) zeroX (firstRows list) ≡ ext 2 0 0
+sum-is : sumFrom (challengesOf challenges) zeroX (firstRows (sectionList list)) ≡ ext 2 0 0
 unfolding sumFrom challengesOf elementAt denominator compressedRow addX subX scaleX addF subF mulF
 sum-is = rw (first-rows, one-inverse) refl
 
-none : NoneRefuses list table aux challenges (listHeight list) (2 ∷ 0 ∷ 0 ∷ [])
+none : NoneRefuses list table aux challenges (listHeight (sectionList list)) (2 ∷ 0 ∷ 0 ∷ [])
 none =
-    subst (λ (x : Ext). NoneRefuses list table aux challenges (listHeight list) (elementWords x)) sum-is
+    subst (λ (x : Ext). NoneRefuses list table aux challenges (listHeight (sectionList list)) (elementWords x)) sum-is
     (none-refuses list table aux challenges fill-fine refuses-nothing)
 
 abbrev after : List ℕ
-after = paddedTable list table (listHeight list)
+after = paddedTable list table (listHeight (sectionList list))
 
-check-is : checkAll after (extendedAux list table (listHeight list) aux challenges) challenges ≡ done []
-check-is = four-calls list table aux challenges (listHeight list) (2 ∷ 0 ∷ 0 ∷ []) (lit< tt) none .zero
+check-is : checkAll after (extendedAux list table (listHeight (sectionList list)) aux challenges) challenges ≡ done []
+check-is = four-calls list table aux challenges (listHeight (sectionList list)) (2 ∷ 0 ∷ 0 ∷ []) (lit< tt) none .zero
 
 -- ---- the text
-calls-text : callsText list challenges (listHeight list) 256 table aux ≡ resultText 1 (listHeight list) 256 after (2 ∷ 0 ∷ 0 ∷ []) []
+calls-text : callsText list challenges (listHeight (sectionList list)) 256 table aux ≡ resultText 1 (listHeight (sectionList list)) 256 after (2 ∷ 0 ∷ 0 ∷ []) []
 unfolding callsText paddedText extendedText checkedText
 calls-text =
     text-made _ _ (none .fill) ∙ text-made _ _ (none .pad) ∙ text-made _ _ (none .extend)
-    ∙ ap (λ (a : Answer). unlessRefused a (resultText 1 (listHeight list) 256 after (extendAll after aux challenges .answer .values) (a .values))) check-is
+    ∙ ap (λ (a : Answer). unlessRefused a (resultText 1 (listHeight (sectionList list)) 256 after (extendAll after aux challenges .answer .values) (a .values))) check-is
     ∙ text-made _ [] refl
-    ∙ ap (λ (a : Answer). resultText 1 (listHeight list) 256 after (a .values) []) (none .extend)
+    ∙ ap (λ (a : Answer). resultText 1 (listHeight (sectionList list)) 256 after (a .values) []) (none .extend)
 
 lines-are : rowLines after 256 ≡ flatMap lineOf section-rows ++ repeated 253 (lineOf padding)
 lines-are =
@@ -211,7 +212,7 @@ calls-print : callsText list challenges 3 256 table aux ≡ printed
 unfolding resultText openingText flatMap line lineRest headLine rowLine sumLine verdictLine decimal digitsOf
 calls-print =
     ap (λ (h : ℕ). callsText list challenges h 256 table aux) (sym height-is) ∙ calls-text
-    ∙ ap (λ (text : List ℕ). (headLine 1 (listHeight list) 256 ++ (text ++ sumLine (2 ∷ 0 ∷ 0 ∷ []))) ++ verdictLine []) lines-are
+    ∙ ap (λ (text : List ℕ). (headLine 1 (listHeight (sectionList list)) 256 ++ (text ++ sumLine (2 ∷ 0 ∷ 0 ∷ []))) ++ verdictLine []) lines-are
     ∙ rw (height-is, padding-line) refl
 
 pub printed-example : transcriptOf input ≡ printed

@@ -1,6 +1,6 @@
 // Runs the stored vectors of lists: record, compare, plan, read and write. Standard input has a call a line (tools/vectors.py) with every
 // array before and after it; what is printed is how many calls of each kind answered what, and how many differ. Then all lines are run again with
-// the last wanted number of each changed: each must differ.
+// the last wanted number of each changed: each must differ. Holds are not in the lines: zeros are lent, one a multiplicity, and must be left.
 use isa::Order;
 use isa::U32TableEntry;
 use list_record::Planned;
@@ -165,6 +165,7 @@ fn take_entry(text: &[u8], from: usize) -> U32TableEntry {
 fn record(text: &[u8], from: usize, counts: &mut [u64; vectors::COUNTS]) -> usize {
     let mut keys = [0u64; 64];
     let mut multiplicities = [0u64; 64];
+    let mut holds = [0u64; 64];
     let list = take_list(text, from, &mut keys, &mut multiplicities);
     let k = list.keys;
     let m = list.multiplicities;
@@ -174,6 +175,7 @@ fn record(text: &[u8], from: usize, counts: &mut [u64; vectors::COUNTS]) -> usiz
         list.sizes,
         part_mut(&mut keys, k),
         part_mut(&mut multiplicities, m),
+        part_mut(&mut holds, m),
         entry.opcode,
         entry.left_operand,
         entry.right_operand,
@@ -183,7 +185,7 @@ fn record(text: &[u8], from: usize, counts: &mut [u64; vectors::COUNTS]) -> usiz
     let got = recorded(answer);
     let number = got.number;
     let same = recorded_is(text, wanted, got, sizes, &keys, k, &multiplicities, m);
-    tally(counts, 1, number, same);
+    tally(counts, 1, number, both(same, none_held(&holds, m)));
     skip_list(text, wanted, k, m)
 }
 
@@ -208,6 +210,12 @@ fn recorded_is(
     false
 }
 
+// Whether the first m holds are 0.
+fn none_held(holds: &[u64], m: usize) -> bool {
+    let zeros = [0u64; 64];
+    same_words(holds, &zeros, m)
+}
+
 // The place after an answer, sizes and arrays.
 fn skip_list(text: &[u8], from: usize, k: usize, m: usize) -> usize {
     let arrays = vectors::skip(text, from, 4);
@@ -230,11 +238,13 @@ fn compare(text: &[u8], from: usize, counts: &mut [u64; vectors::COUNTS]) -> usi
 fn plan(text: &[u8], from: usize, counts: &mut [u64; vectors::COUNTS]) -> usize {
     let mut keys = [0u64; 64];
     let mut multiplicities = [0u64; 64];
+    let holds = [0u64; 64];
     let list = take_list(text, from, &mut keys, &mut multiplicities);
     let got = planned(list_record::plan(
         list.sizes,
         part(&keys, list.keys),
         part(&multiplicities, list.multiplicities),
+        part(&holds, list.multiplicities),
     ));
     let number = got.number;
     let at = vectors::skip(text, list.next, 2);
@@ -253,6 +263,7 @@ fn both(a: bool, b: bool) -> bool {
 fn read(text: &[u8], from: usize, counts: &mut [u64; vectors::COUNTS]) -> usize {
     let mut keys = [0u64; 64];
     let mut multiplicities = [0u64; 64];
+    let mut holds = [0u64; 64];
     let list = take_list(text, from, &mut keys, &mut multiplicities);
     let k = list.keys;
     let m = list.multiplicities;
@@ -265,13 +276,14 @@ fn read(text: &[u8], from: usize, counts: &mut [u64; vectors::COUNTS]) -> usize 
         list.sizes,
         part_mut(&mut keys, k),
         part_mut(&mut multiplicities, m),
+        part_mut(&mut holds, m),
     );
     let sizes = r.sizes;
     let answer = r.answer;
     let got = have_read(answer);
     let number = got.number;
     let same = recorded_is(text, wanted, got, sizes, &keys, k, &multiplicities, m);
-    tally(counts, 4, number, same);
+    tally(counts, 4, number, both(same, none_held(&holds, m)));
     skip_list(text, wanted, k, m)
 }
 
@@ -279,6 +291,7 @@ fn read(text: &[u8], from: usize, counts: &mut [u64; vectors::COUNTS]) -> usize 
 fn write(text: &[u8], from: usize, counts: &mut [u64; vectors::COUNTS]) -> usize {
     let mut keys = [0u64; 64];
     let mut multiplicities = [0u64; 64];
+    let holds = [0u64; 64];
     let list = take_list(text, from, &mut keys, &mut multiplicities);
     let length = vectors::number(text, list.next);
     let n = vectors::within(length.value, 512);
@@ -288,6 +301,7 @@ fn write(text: &[u8], from: usize, counts: &mut [u64; vectors::COUNTS]) -> usize
         list.sizes,
         part(&keys, list.keys),
         part(&multiplicities, list.multiplicities),
+        part(&holds, list.multiplicities),
         byte_part_mut(&mut out, n),
     ));
     let number = got.number;
@@ -314,6 +328,7 @@ fn fill_up(
     n: usize,
     keys: &mut [u64],
     multiplicities: &mut [u64],
+    holds: &mut [u64],
     counts: &mut [u64; vectors::COUNTS],
 ) -> Sizes {
     let mut sizes = Sizes {
@@ -322,7 +337,7 @@ fn fill_up(
     };
     let mut i: usize = 0;
     while i < n {
-        let r = list_record::record_lending(sizes, keys, multiplicities, 6, i as u64, 1);
+        let r = list_record::record_lending(sizes, keys, multiplicities, holds, 6, i as u64, 1);
         sizes = r.sizes;
         let answer = r.answer;
         note_position(recorded(answer), i as u64, counts);
@@ -331,20 +346,31 @@ fn fill_up(
     sizes
 }
 
-// A key more than there are places, then the first key again.
+// A key more than there are places.
 fn overfill(
     sizes: Sizes,
     keys: &mut [u64],
     multiplicities: &mut [u64],
+    holds: &mut [u64],
     counts: &mut [u64; vectors::COUNTS],
 ) {
-    let full = list_record::record_lending(sizes, keys, multiplicities, 6, 0, 0);
-    let last = full.answer;
-    let refusal = recorded(last);
+    let full = list_record::record_lending(sizes, keys, multiplicities, holds, 6, 0, 0);
+    let answer = full.answer;
+    let refusal = recorded(answer);
     tally(counts, 6, refusal.number, refusal.number == 6);
-    let again = list_record::record_lending(full.sizes, keys, multiplicities, 6, 0, 1);
-    let first = again.answer;
-    note_position(recorded(first), 0, counts);
+}
+
+// The first key again.
+fn first_again(
+    sizes: Sizes,
+    keys: &mut [u64],
+    multiplicities: &mut [u64],
+    holds: &mut [u64],
+    counts: &mut [u64; vectors::COUNTS],
+) {
+    let again = list_record::record_lending(sizes, keys, multiplicities, holds, 6, 0, 1);
+    let answer = again.answer;
+    note_position(recorded(answer), 0, counts);
 }
 
 fn note_position(got: Got, position: u64, counts: &mut [u64; vectors::COUNTS]) {
@@ -360,18 +386,21 @@ fn note_position(got: Got, position: u64, counts: &mut [u64; vectors::COUNTS]) {
 fn places(counts: &mut [u64; vectors::COUNTS]) {
     let mut keys = [0u64; 6144];
     let mut multiplicities = [0u64; 2048];
-    let sizes = fill_up(2048, &mut keys, &mut multiplicities, counts);
-    overfill(sizes, &mut keys, &mut multiplicities, counts);
+    let mut holds = [0u64; 2048];
+    let sizes = fill_up(2048, &mut keys, &mut multiplicities, &mut holds, counts);
+    overfill(sizes, &mut keys, &mut multiplicities, &mut holds, counts);
+    first_again(sizes, &mut keys, &mut multiplicities, &mut holds, counts);
 }
 
 fn too_many_places(counts: &mut [u64; vectors::COUNTS]) {
     let mut keys = [0u64; 6147];
     let mut multiplicities = [0u64; 2049];
+    let mut holds = [0u64; 2049];
     let sizes = Sizes {
         capacity: 2049,
         used: 0,
     };
-    let r = list_record::record_lending(sizes, &mut keys, &mut multiplicities, 6, 1, 1);
+    let r = list_record::record_lending(sizes, &mut keys, &mut multiplicities, &mut holds, 6, 1, 1);
     let answer = r.answer;
     let got = recorded(answer);
     tally(counts, 6, got.number, got.number == 1);

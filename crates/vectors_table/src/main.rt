@@ -87,6 +87,7 @@ fn both(a: bool, b: bool) -> bool {
 fn fill(text: &[u8], from: usize, counts: &mut [u64; vectors::COUNTS]) -> usize {
     let mut keys = [0u64; 64];
     let mut multiplicities = [0u64; 64];
+    let holds = [0u64; 64];
     let mut table = [0u64; 1024];
     let capacity = vectors::number(text, from);
     let used = vectors::number(text, capacity.next);
@@ -101,6 +102,7 @@ fn fill(text: &[u8], from: usize, counts: &mut [u64; vectors::COUNTS]) -> usize 
         sizes,
         part(&keys, k.length),
         part(&multiplicities, m.length),
+        part(&holds, m.length),
         part_mut(&mut table, t.length),
     ));
     note_fill(text, t.next, got, &table, t.length, counts)
@@ -172,6 +174,7 @@ fn note_extend(
 fn whole_run(text: &[u8], from: usize, counts: &mut [u64; vectors::COUNTS]) -> usize {
     let mut keys = [0u64; 64];
     let mut multiplicities = [0u64; 64];
+    let holds = [0u64; 64];
     let mut table = [0u64; 1024];
     let mut aux = [0u64; 1024];
     let mut challenges = [0u64; 32];
@@ -190,6 +193,7 @@ fn whole_run(text: &[u8], from: usize, counts: &mut [u64; vectors::COUNTS]) -> u
         sizes,
         part(&keys, k.length),
         part(&multiplicities, m.length),
+        part(&holds, m.length),
         part_mut(&mut table, t.length),
         part_mut(&mut aux, a.length),
         part(&challenges, c.length),

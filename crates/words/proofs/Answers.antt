@@ -7,7 +7,7 @@ use lib.Dec.{lit<}
 use Rattle.words.specs.Answers.{Answer, done, declined}
 use Rattle.words.specs.Refusals.{refusalNumber}
 use Rattle.words.specs.declared.Refusal.{Refusal}
-use Rattle.words.specs.declared.Refusal.the-variants.{Shape, Stranger, Wide, BareLog, CountFull, ListFull, Short, Unreduced, Flat, Torn, Repeat, Tally, ZeroDivisor, CascadeFull, JobAbove}
+use Rattle.words.specs.declared.Refusal.the-variants.{Shape, Stranger, Wide, BareLog, CountFull, ListFull, Short, Unreduced, Flat, Torn, Repeat, Tally, ZeroDivisor, CascadeFull, OpenHold, NoHold, JobAbove}
 
 pub number-positive : (reason : Refusal) → 0 < refusalNumber reason
 number-positive Shape = lit< tt
@@ -24,6 +24,8 @@ number-positive Repeat = lit< tt
 number-positive Tally = lit< tt
 number-positive ZeroDivisor = lit< tt
 number-positive CascadeFull = lit< tt
+number-positive OpenHold = lit< tt
+number-positive NoHold = lit< tt
 number-positive JobAbove = lit< tt
 
 pub declined-not-done : (reason : Refusal) {values : List ℕ} → declined reason ≡ done values → ⊥

@@ -43,6 +43,8 @@ pub enum Refusal {
     Tally,
     ZeroDivisor,
     CascadeFull,
+    OpenHold,
+    NoHold,
     JobAbove,
 }
 
@@ -66,6 +68,8 @@ impl Refusal {
             Refusal::Tally => 12,
             Refusal::ZeroDivisor => 13,
             Refusal::CascadeFull => 14,
+            Refusal::OpenHold => 15,
+            Refusal::NoHold => 16,
             Refusal::JobAbove => 17,
         }
     }

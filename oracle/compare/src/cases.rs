@@ -31,6 +31,9 @@ const TALLY: u64 = 12;
 const ZERO_DIVISOR: u64 = 13;
 /// Request 3's.
 const CASCADE_FULL: u64 = 14;
+/// Request 6's.
+const OPEN_HOLD: u64 = 15;
+const NO_HOLD: u64 = 16;
 
 /// Rows of the table in docs/DIFFERENCES.md, by their first cell. A refusal, or a panic of the original, that is none of them is a
 /// difference.
@@ -75,6 +78,9 @@ pub struct Counts {
     pub heights: u64,
     pub recordings: u64,
     pub orders: u64,
+    /// Entries held, holds confirmed, holds dropped; refused with 16; with 5 where the count alone would do; lists filled after such calls, and of those the
+    /// ones with a key that was held and never counted.
+    pub holds: [u64; 7],
     /// Replays, and the steps of theirs that were done.
     pub replays: [u64; 2],
     /// div_mod steps that stop at 6 where lt alone had a place, at 5 of lt where split had no place, and at 13.
@@ -114,6 +120,13 @@ pub enum Case {
         capacity: usize,
         keys: Vec<Key>,
     },
+    /// Recordings, at once and in two parts, onto a list without repeats that has so many holds.
+    Hold {
+        list: Vec<Entry>,
+        holds: Vec<u64>,
+        capacity: usize,
+        calls: Vec<Call>,
+    },
     /// A trace replayed onto a list without repeats.
     Replay {
         list: Vec<Entry>,
@@ -141,6 +154,15 @@ pub enum Case {
     },
     /// Arrays of a wrong shape.
     Shapes,
+}
+
+/// A recording, or one of the parts of one.
+#[derive(Debug, Clone, Copy, Eq, PartialEq)]
+pub enum Call {
+    Record(Key),
+    Hold(Key),
+    Confirm(usize),
+    Drop(usize),
 }
 
 pub type Same = Result<(), String>;
@@ -267,14 +289,14 @@ fn stored(list: &[Entry], height: usize, width: usize) -> Vec<u8> {
     bytes
 }
 
-/// The list in the port's arrays; unused places hold other words.
+/// The list in the port's arrays, with no hold at its places; unused places have other words.
 fn arrays(list: &[Entry], capacity: usize) -> List {
-    let (mut keys, mut multiplicities) = (old_words(3 * capacity), old_words(capacity));
+    let (mut keys, mut multiplicities, mut holds) = (old_words(3 * capacity), old_words(capacity), old_words(capacity));
     for (i, entry) in list.iter().enumerate() {
         keys[3 * i..3 * i + 3].copy_from_slice(&entry.key);
-        multiplicities[i] = entry.multiplicity;
+        (multiplicities[i], holds[i]) = (entry.multiplicity, 0);
     }
-    List { capacity, used: list.len(), keys, multiplicities }
+    List { capacity, used: list.len(), keys, multiplicities, holds }
 }
 
 fn agree(what: &str, ours: impl std::fmt::Debug, theirs: impl std::fmt::Debug, agrees: bool) -> Same {
@@ -297,6 +319,7 @@ impl Comparison {
             Case::List { list, spare, extra, challenges } => self.list(list, *spare, *extra, challenges),
             Case::Table { rows, aux, challenges, filled } => self.table(rows, aux, challenges, *filled),
             Case::Record { list, capacity, keys } => self.record(list, *capacity, keys),
+            Case::Hold { list, holds, capacity, calls } => self.hold(list, holds, *capacity, calls),
             Case::Replay { list, capacity, trace } => self.replay(list, *capacity, trace),
             Case::Client { requests, challenges } => self.client(requests, challenges),
             Case::LookUp { elements, capacity, challenges } => self.look_up(elements, *capacity, challenges),
@@ -359,11 +382,13 @@ impl Comparison {
     /// their shape; what it can be given of these, an aux table of another height, it asserts.
     fn shapes(&mut self) -> Same {
         let old = arrays(&[entry(14, 3, 1, 2)], 2);
-        let wrong: [&dyn Fn(&mut List); 7] = [
+        let wrong: [&dyn Fn(&mut List); 9] = [
             &|list| list.keys.truncate(5),
             &|list| list.keys.push(1),
             &|list| list.multiplicities.truncate(1),
             &|list| list.multiplicities.push(1),
+            &|list| list.holds.truncate(1),
+            &|list| list.holds.push(0),
             &|list| list.used = 3,
             &|list| list.capacity = 1,
             &|list| *list = arrays(&[], MOST_PLACES + 1),
@@ -374,6 +399,12 @@ impl Comparison {
             let before = list.clone();
             let answer = port::record(&mut list, [14, 3, 1]);
             self.refused("record with a wrong shape", answer, SHAPE)?;
+            let answer = port::hold(&mut list, [14, 3, 1]);
+            self.refused("hold with a wrong shape", answer, SHAPE)?;
+            let answer = port::confirm(&mut list, 0);
+            self.refused("confirm with a wrong shape", answer, SHAPE)?;
+            let answer = port::drop(&mut list, 0);
+            self.refused("drop with a wrong shape", answer, SHAPE)?;
             let answer = port::plan(&list);
             self.refused("plan with a wrong shape", answer, SHAPE)?;
             let mut table = old_words(100);
@@ -522,6 +553,7 @@ impl Comparison {
         agree("read", answer, list.len(), answer == Ok([list.len() as u64]))?;
         self.same("read: keys", &fresh.keys, &arrays(list, ours.capacity).keys)?;
         self.same("read: multiplicities", &fresh.multiplicities, &ours.multiplicities)?;
+        self.same("read: holds", &fresh.holds, &ours.holds)?;
 
         self.unreadable("read, one byte fewer", &bytes[..bytes.len() - 1], ours.capacity, TORN)?;
         self.unreadable("read, another height", &stored(list, height + 1, 8), ours.capacity, TALLY)?;
@@ -547,6 +579,7 @@ impl Comparison {
         let expected = arrays(&list, capacity);
         self.same("read of the old form: keys", &fresh.keys, &expected.keys)?;
         self.same("read of the old form: multiplicities", &fresh.multiplicities, &expected.multiplicities)?;
+        self.same("read of the old form: holds", &fresh.holds, &expected.holds)?;
         let mut out = vec![7; new.len()];
         let answer = port::write(&fresh, &mut out[..old.len()]);
         self.refused("write, as many bytes as the old form has", answer, SHORT)?;
@@ -564,7 +597,8 @@ impl Comparison {
         let answer = port::read(bytes, &mut list);
         self.refused(what, answer, number)?;
         self.untouched(what, &list.keys, &old_words(3 * capacity))?;
-        self.untouched(what, &list.multiplicities, &old_words(capacity))
+        self.untouched(what, &list.multiplicities, &old_words(capacity))?;
+        self.untouched(what, &list.holds, &old_words(capacity))
     }
 
     /// A list that document 01 does not admit; `entry` is the first entry that it refuses.
@@ -810,6 +844,7 @@ impl Comparison {
                 self.refused("record", answer, reason)?;
                 self.untouched("record, refused: keys", &ours.keys, &before.keys)?;
                 self.untouched("record, refused: multiplicities", &ours.multiplicities, &before.multiplicities)?;
+                self.untouched("record, refused: holds", &ours.holds, &before.holds)?;
                 match reason {
                     COUNT_FULL => self.note(listed::MULTIPLICITY),
                     LIST_FULL => self.note(listed::SIZE),
@@ -827,7 +862,123 @@ impl Comparison {
             let expected = arrays(&shown, capacity);
             self.same("record: keys", &ours.keys, &expected.keys)?;
             self.same("record: multiplicities", &ours.multiplicities, &expected.multiplicities)?;
+            self.same("record: holds", &ours.holds, &expected.holds)?;
             entries = after;
+        }
+        Ok(())
+    }
+
+    /// The original has no holds: it records the key of each accepted confirm and recording. Its multiplicity of a key, 0 where it has no such key, is the
+    /// port's; positions and holds are worked out here. Then, if no hold is open, the plan and the table, in which a key that was never counted has a section.
+    fn hold(&mut self, list: &[Entry], holds: &[u64], capacity: usize, calls: &[Call]) -> Same {
+        let mut ours = arrays(list, capacity);
+        ours.holds[..list.len()].copy_from_slice(holds);
+        // the original's list; and of each used place the key as it stands there, with its open holds
+        let mut entries = list.to_vec();
+        let mut places: Vec<(Key, u64)> = list.iter().map(|entry| entry.key).zip(holds.iter().copied()).collect();
+        let count = |entries: &[Entry], key: Key| {
+            entries.iter().find(|entry| admitted(entry.key) == admitted(key)).map_or(0, |entry| entry.multiplicity)
+        };
+        for &call in calls {
+            let before = ours.clone();
+            // the answer due, and the key that is counted
+            let (answer, due, counted) = match call {
+                Call::Record(raw) | Call::Hold(raw) => {
+                    let is_hold = matches!(call, Call::Hold(_));
+                    let answer = if is_hold { port::hold(&mut ours, raw) } else { port::record(&mut ours, raw) };
+                    let at = places.iter().position(|(key, _)| admitted(*key) == admitted(raw));
+                    let is_full = at.is_some_and(|at| {
+                        let count = count(&entries, raw);
+                        let is_full = u128::from(count) + u128::from(places[at].1) >= u128::from(MOST_COUNT);
+                        self.counts.holds[4] += (is_full && count < MOST_COUNT) as u64;
+                        is_full
+                    });
+                    let reason = key_reason(raw).or(match at {
+                        Some(_) => is_full.then_some(COUNT_FULL),
+                        None => (places.len() == capacity).then_some(LIST_FULL),
+                    });
+                    let due = reason.map_or_else(
+                        || {
+                            let at = at.unwrap_or(places.len());
+                            if at == places.len() {
+                                places.push((admitted(raw), 0));
+                            }
+                            places[at].1 += is_hold as u64;
+                            Ok(vec![at as u64, places.len() as u64])
+                        },
+                        Err,
+                    );
+                    self.counts.holds[0] += (is_hold && due.is_ok()) as u64;
+                    self.counts.recordings += (!is_hold) as u64;
+                    (answer.map(|words| words.to_vec()), due, (!is_hold).then_some(raw))
+                }
+                Call::Confirm(position) => {
+                    let answer = port::confirm(&mut ours, position);
+                    let key = places.get(position).map(|(key, _)| *key);
+                    let due = match places.get_mut(position).filter(|(_, holds)| *holds > 0) {
+                        None => Err(NO_HOLD),
+                        Some((key, _)) if count(&entries, *key) >= MOST_COUNT => Err(COUNT_FULL),
+                        Some((_, holds)) => {
+                            *holds -= 1;
+                            Ok(vec![])
+                        }
+                    };
+                    self.counts.holds[1] += due.is_ok() as u64;
+                    (answer.map(|_| vec![]), due, key)
+                }
+                Call::Drop(position) => {
+                    let answer = port::drop(&mut ours, position);
+                    let due = match places.get_mut(position).filter(|(_, holds)| *holds > 0) {
+                        None => Err(NO_HOLD),
+                        Some((_, holds)) => {
+                            *holds -= 1;
+                            Ok(vec![])
+                        }
+                    };
+                    self.counts.holds[2] += due.is_ok() as u64;
+                    (answer.map(|_| vec![]), due, None)
+                }
+            };
+            self.counts.holds[3] += (due == Err(NO_HOLD)) as u64;
+            if let Err(reason) = due {
+                *self.counts.refusals.entry(reason).or_default() += 1;
+            }
+            agree("a recording in two parts", &answer, &due, answer == due)?;
+            match (due, counted) {
+                (Err(_), _) => {
+                    self.untouched("refused: keys", &ours.keys, &before.keys)?;
+                    self.untouched("refused: multiplicities", &ours.multiplicities, &before.multiplicities)?;
+                    self.untouched("refused: holds", &ours.holds, &before.holds)?;
+                }
+                (Ok(_), Some(key)) => entries = theirs("record", || record(&entries, &[key]))?,
+                (Ok(_), None) => (),
+            }
+            ours.used = places.len();
+            let shown: Vec<Entry> = places.iter().map(|&(key, _)| Entry { key, multiplicity: count(&entries, key) }).collect();
+            let mut expected = arrays(&shown, capacity);
+            places.iter().enumerate().for_each(|(i, (_, holds))| expected.holds[i] = *holds);
+            self.same("keys", &ours.keys, &expected.keys)?;
+            self.same("multiplicities", &ours.multiplicities, &expected.multiplicities)?;
+            self.same("holds", &ours.holds, &expected.holds)?;
+        }
+        let shown: Vec<Entry> = places.iter().map(|&(key, _)| Entry { key, multiplicity: count(&entries, key) }).collect();
+        if places.iter().any(|(_, holds)| *holds > 0) {
+            let answer = port::plan(&ours);
+            self.refused("plan with an open hold", answer, OPEN_HOLD)?;
+            let (mut table, mut out) = (old_words(30), [7; 60]);
+            let answer = port::fill(&ours, &mut table);
+            self.refused("fill with an open hold", answer, OPEN_HOLD)?;
+            self.untouched("fill with an open hold: table", &table, &old_words(30))?;
+            let answer = port::write(&ours, &mut out);
+            self.refused("write with an open hold", answer, OPEN_HOLD)?;
+            agree("write with an open hold: bytes", out, 7, out == [7; 60])?;
+        } else if shown.iter().all(|entry| entry_reason(entry).is_none()) {
+            self.counts.holds[5] += 1;
+            self.counts.holds[6] +=
+                shown.iter().any(|shown| entries.iter().all(|entry| admitted(entry.key) != admitted(shown.key))) as u64;
+            let height = theirs("height", || list_height(&shown))?;
+            self.heights(&shown, &ours, height)?;
+            self.filled(&shown, &ours, height, 2)?;
         }
         Ok(())
     }
@@ -863,7 +1014,8 @@ impl Comparison {
         agree("replay", answer, expected, answer == expected)?;
         let expected = arrays(&entries, capacity);
         self.same("replay: keys", &ours.keys, &expected.keys)?;
-        self.same("replay: multiplicities", &ours.multiplicities, &expected.multiplicities)
+        self.same("replay: multiplicities", &ours.multiplicities, &expected.multiplicities)?;
+        self.same("replay: holds", &ours.holds, &expected.holds)
     }
 
     /// The requests' rows are the first rows of the sections that the original fills. Its fold over them is the sum, its `compute_terminal` too where the
@@ -1194,6 +1346,27 @@ impl Case {
                 ways.extend(capacities.map(|capacity| case(list, capacity as usize, keys)));
                 ways
             }
+            Case::Hold { list, holds, capacity, calls } => {
+                let case = |both: &[(Entry, u64)], capacity, calls: &[Call]| {
+                    let (list, holds) = both.iter().copied().unzip();
+                    Case::Hold { list, holds, capacity, calls: calls.to_vec() }
+                };
+                let both: Vec<(Entry, u64)> = list.iter().copied().zip(holds.iter().copied()).collect();
+                let mut ways: Vec<Case> = without(calls).iter().map(|calls| case(&both, *capacity, calls)).collect();
+                ways.extend(without(&both).iter().map(|both| case(both, *capacity, calls)));
+                for i in 0..both.len() {
+                    for [multiplicity, holds] in
+                        each_smaller(&[both[i].0.multiplicity, both[i].1]).iter().map(|words| [words[0], words[1]])
+                    {
+                        let mut way = both.clone();
+                        way[i] = (Entry { multiplicity, ..way[i].0 }, holds);
+                        ways.push(case(&way, *capacity, calls));
+                    }
+                }
+                let capacities = smaller_words(*capacity as u64).into_iter().filter(|&capacity| capacity >= list.len() as u64);
+                ways.extend(capacities.map(|capacity| case(&both, capacity as usize, calls)));
+                ways
+            }
             Case::Replay { list, capacity, trace } => {
                 let case = |list: &[Entry], capacity, trace: &[Key]| Case::Replay {
                     list: list.to_vec(),
@@ -1288,6 +1461,16 @@ impl std::fmt::Display for Case {
                 writeln!(f, "recordings onto a list of {}, capacity {capacity}", list.len())?;
                 entries(f, list)?;
                 keys.iter().try_for_each(|key| writeln!(f, "  record {}", words(key)))
+            }
+            Case::Hold { list, holds, capacity, calls } => {
+                writeln!(
+                    f,
+                    "recordings in two parts onto a list of {}, capacity {capacity}, holds {}",
+                    list.len(),
+                    words(holds)
+                )?;
+                entries(f, list)?;
+                calls.iter().try_for_each(|call| writeln!(f, "  {call:?}"))
             }
             Case::Replay { list, capacity, trace } => {
                 writeln!(f, "a replay onto a list of {}, capacity {capacity}", list.len())?;

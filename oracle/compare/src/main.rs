@@ -89,6 +89,10 @@ fn compare(seed: u64, size: Size) -> ExitCode {
             println!("NOT COMPARED (seed {seed}): look-ups, {:?}", counts.lookups);
             ExitCode::FAILURE
         }
+        None if counts.holds.contains(&0) || !counts.refusals.contains_key(&15) => {
+            println!("NOT COMPARED (seed {seed}): recordings in two parts, {:?}", counts.holds);
+            ExitCode::FAILURE
+        }
         None if counts.stops.contains(&0) => {
             println!("NOT COMPARED (seed {seed}): steps of div_mod that stop, {:?}", counts.stops);
             ExitCode::FAILURE
@@ -118,6 +122,10 @@ fn print_counts(counts: &Counts) {
     println!(
         "rows against heights, of changed and foreign tables that pass {} as many rows as the heights {}",
         counts.passing[0], counts.passing[1]
+    );
+    let [held, confirmed, dropped, none, full, filled, never] = counts.holds;
+    println!(
+        "held {held} confirmed {confirmed} dropped {dropped} refused with 16 {none} with 5 by the holds {full}; filled then {filled} with a key never counted {never}"
     );
     println!(
         "replays {} steps done {}; div_mod stopped at split's 6 {} at lt's 5 with split's 6 {} at 13 {}",
@@ -297,6 +305,7 @@ impl Run {
             foreign_table(random),
             random_table(random),
             recordings(random),
+            two_parts(random),
             replays(random),
             requests(random, most),
             look_ups(random),
@@ -479,6 +488,44 @@ fn recordings(random: &mut Random) -> Case {
     };
     let keys = (0..random.below(16)).map(|_| raw(random)).collect();
     Case::Record { list, capacity, keys }
+}
+
+/// Holds, confirms, drops and recordings of few keys onto a fresh list, or onto one whose counts and holds are often at the limit; positions are now and then
+/// past the list. Half of them end with as many drops as holds may be open.
+fn two_parts(random: &mut Random) -> Case {
+    let mut keys: Vec<Key> = (0..1 + random.below(4)).map(|_| random.key()).collect();
+    if random.below(4) == 0 {
+        keys.push(random.one_of(&[[5, 0, 0], [14, 1 << 32, 0], [12, 0, 3], [30, 0, 1 << 32]]));
+    }
+    let (mut list, mut holds): (Vec<Entry>, Vec<u64>) = (vec![], vec![]);
+    if random.below(2) == 0 {
+        for key in keys.clone() {
+            let is_fine = list.iter().all(|entry| admitted(entry.key) != admitted(key)) && key != [5, 0, 0];
+            if is_fine && key[1] < P && key[2] < 1 << 32 && (key[0] == 30 || key[1] < 1 << 32) && (key[0], key[1]) != (12, 0) {
+                let multiplicity = random.one_of(&[0, 1, 1 << 32, P - 3, P - 2, P - 1, P, u64::MAX]);
+                list.push(Entry { key: now_and_then_raw(random, key), multiplicity });
+                holds.push(random.one_of(&[0, 0, 1, 2, 1 << 32, P - 2, P - 1, u64::MAX]));
+            }
+        }
+    }
+    let capacity = list.len() + random.below(4) as usize;
+    let mut calls: Vec<Call> = vec![];
+    for _ in 0..random.below(14) {
+        let key = random.one_of(&keys);
+        let key = now_and_then_raw(random, key);
+        let position = if random.below(8) == 0 { random.word() } else { random.below(capacity as u64 + 1) } as usize;
+        calls.push(match random.below(8) {
+            0 | 1 => Call::Record(key),
+            2..=4 => Call::Hold(key),
+            5 | 6 => Call::Confirm(position),
+            _ => Call::Drop(position),
+        });
+    }
+    if random.below(2) == 0 {
+        let open = calls.iter().filter(|call| matches!(call, Call::Hold(_))).count();
+        calls.extend((0..capacity).flat_map(|position| vec![Call::Drop(position); open]));
+    }
+    Case::Hold { list, holds, capacity, calls }
 }
 
 /// Steps of the ten opcodes with few values, so that keys are met again, onto a list with at most eight unused places, some of whose keys a step of the

@@ -15,14 +15,26 @@ pub type Answer<const N: usize> = Result<[u64; N], u64>;
 
 /// What a call hands back: its number, or one of its arrays. With a fault set, one word of it is changed after every twentieth such call,
 /// as a wrong library would: the comparison must find it.
-pub const FAULTS: [&str; 48] = [
+pub const FAULTS: [&str; 61] = [
     "record number",
     "record keys",
     "record multiplicities",
+    "record holds",
     "record answers",
+    "hold number",
+    "hold keys",
+    "hold multiplicities",
+    "hold holds",
+    "hold answers",
+    "confirm number",
+    "confirm multiplicities",
+    "confirm holds",
+    "drop number",
+    "drop holds",
     "replay number",
     "replay keys",
     "replay multiplicities",
+    "replay holds",
     "replay answers",
     "compare number",
     "compare answers",
@@ -31,6 +43,7 @@ pub const FAULTS: [&str; 48] = [
     "read number",
     "read keys",
     "read multiplicities",
+    "read holds",
     "read answers",
     "write number",
     "write out",
@@ -183,13 +196,14 @@ fn answers(call: &'static str, n: usize) -> Lent<u64> {
 
 // ------------------------------------------------------------------------------------------------------------------- the calls
 
-/// A list: capacity and used, keys (three words a place) and multiplicities.
+/// A list: capacity and used, keys (three words a place), multiplicities and holds.
 #[derive(Debug, Clone, Eq, PartialEq)]
 pub struct List {
     pub capacity: usize,
     pub used: usize,
     pub keys: Vec<u64>,
     pub multiplicities: Vec<u64>,
+    pub holds: Vec<u64>,
 }
 
 /// Position and used.
@@ -197,6 +211,7 @@ pub fn record(list: &mut List, [opcode, lhs, rhs]: [u64; 3]) -> Answer<2> {
     let call = "record";
     let mut keys = Lent::new(call, "keys", &list.keys);
     let mut multiplicities = Lent::new(call, "multiplicities", &list.multiplicities);
+    let mut holds = Lent::new(call, "holds", &list.holds);
     let mut answers = answers(call, 2);
     let number = unsafe {
         c::u32_table_record(
@@ -206,6 +221,8 @@ pub fn record(list: &mut List, [opcode, lhs, rhs]: [u64; 3]) -> Answer<2> {
             keys.len(),
             multiplicities.pointer(),
             multiplicities.len(),
+            holds.pointer(),
+            holds.len(),
             opcode,
             lhs,
             rhs,
@@ -215,7 +232,86 @@ pub fn record(list: &mut List, [opcode, lhs, rhs]: [u64; 3]) -> Answer<2> {
     };
     keys.back(&mut list.keys);
     multiplicities.back(&mut list.multiplicities);
+    holds.back(&mut list.holds);
     answered(number, answers, |_| 2)
+}
+
+/// Position and used.
+pub fn hold(list: &mut List, [opcode, lhs, rhs]: [u64; 3]) -> Answer<2> {
+    let call = "hold";
+    let mut keys = Lent::new(call, "keys", &list.keys);
+    let mut multiplicities = Lent::new(call, "multiplicities", &list.multiplicities);
+    let mut holds = Lent::new(call, "holds", &list.holds);
+    let mut answers = answers(call, 2);
+    let number = unsafe {
+        c::u32_table_hold(
+            list.capacity,
+            list.used,
+            keys.pointer(),
+            keys.len(),
+            multiplicities.pointer(),
+            multiplicities.len(),
+            holds.pointer(),
+            holds.len(),
+            opcode,
+            lhs,
+            rhs,
+            answers.pointer(),
+            answers.len(),
+        )
+    };
+    keys.back(&mut list.keys);
+    multiplicities.back(&mut list.multiplicities);
+    holds.back(&mut list.holds);
+    answered(number, answers, |_| 2)
+}
+
+pub fn confirm(list: &mut List, position: usize) -> Answer<0> {
+    let call = "confirm";
+    let mut keys = Lent::new(call, "keys", &list.keys);
+    let mut multiplicities = Lent::new(call, "multiplicities", &list.multiplicities);
+    let mut holds = Lent::new(call, "holds", &list.holds);
+    let number = unsafe {
+        c::u32_table_confirm(
+            list.capacity,
+            list.used,
+            keys.pointer(),
+            keys.len(),
+            multiplicities.pointer(),
+            multiplicities.len(),
+            holds.pointer(),
+            holds.len(),
+            position,
+        )
+    };
+    keys.unchanged(&list.keys);
+    multiplicities.back(&mut list.multiplicities);
+    holds.back(&mut list.holds);
+    answered(number, answers(call, 0), |_| 0)
+}
+
+pub fn drop(list: &mut List, position: usize) -> Answer<0> {
+    let call = "drop";
+    let mut keys = Lent::new(call, "keys", &list.keys);
+    let mut multiplicities = Lent::new(call, "multiplicities", &list.multiplicities);
+    let mut holds = Lent::new(call, "holds", &list.holds);
+    let number = unsafe {
+        c::u32_table_drop(
+            list.capacity,
+            list.used,
+            keys.pointer(),
+            keys.len(),
+            multiplicities.pointer(),
+            multiplicities.len(),
+            holds.pointer(),
+            holds.len(),
+            position,
+        )
+    };
+    keys.unchanged(&list.keys);
+    multiplicities.unchanged(&list.multiplicities);
+    holds.back(&mut list.holds);
+    answered(number, answers(call, 0), |_| 0)
 }
 
 /// The number; and on a refusal too the steps done, and used.
@@ -223,6 +319,7 @@ pub fn replay(list: &mut List, trace: &[u64]) -> (u64, [u64; 2]) {
     let call = "replay";
     let mut keys = Lent::new(call, "keys", &list.keys);
     let mut multiplicities = Lent::new(call, "multiplicities", &list.multiplicities);
+    let mut holds = Lent::new(call, "holds", &list.holds);
     let mut steps = Lent::new(call, "trace", trace);
     let mut answers = answers(call, 2);
     let number = unsafe {
@@ -233,6 +330,8 @@ pub fn replay(list: &mut List, trace: &[u64]) -> (u64, [u64; 2]) {
             keys.len(),
             multiplicities.pointer(),
             multiplicities.len(),
+            holds.pointer(),
+            holds.len(),
             steps.pointer(),
             steps.len(),
             answers.pointer(),
@@ -241,6 +340,7 @@ pub fn replay(list: &mut List, trace: &[u64]) -> (u64, [u64; 2]) {
     };
     keys.back(&mut list.keys);
     multiplicities.back(&mut list.multiplicities);
+    holds.back(&mut list.holds);
     steps.unchanged(trace);
     let words = answers.content();
     assert!(words[2..] == [OLD; 2], "the port: replay wrote to answers past the second");
@@ -355,6 +455,7 @@ pub fn plan(list: &List) -> Answer<2> {
     let call = "plan";
     let mut keys = Lent::new(call, "keys", &list.keys);
     let mut multiplicities = Lent::new(call, "multiplicities", &list.multiplicities);
+    let mut holds = Lent::new(call, "holds", &list.holds);
     let mut answers = answers(call, 2);
     let number = unsafe {
         c::u32_table_plan(
@@ -364,12 +465,15 @@ pub fn plan(list: &List) -> Answer<2> {
             keys.len(),
             multiplicities.pointer(),
             multiplicities.len(),
+            holds.pointer(),
+            holds.len(),
             answers.pointer(),
             answers.len(),
         )
     };
     keys.unchanged(&list.keys);
     multiplicities.unchanged(&list.multiplicities);
+    holds.unchanged(&list.holds);
     answered(number, answers, |_| 2)
 }
 
@@ -379,6 +483,7 @@ pub fn read(bytes: &[u8], list: &mut List) -> Answer<1> {
     let mut lent = Lent::new(call, "bytes", bytes);
     let mut keys = Lent::new(call, "keys", &list.keys);
     let mut multiplicities = Lent::new(call, "multiplicities", &list.multiplicities);
+    let mut holds = Lent::new(call, "holds", &list.holds);
     let mut answers = answers(call, 1);
     let number = unsafe {
         c::u32_table_read(
@@ -390,6 +495,8 @@ pub fn read(bytes: &[u8], list: &mut List) -> Answer<1> {
             keys.len(),
             multiplicities.pointer(),
             multiplicities.len(),
+            holds.pointer(),
+            holds.len(),
             answers.pointer(),
             answers.len(),
         )
@@ -397,6 +504,7 @@ pub fn read(bytes: &[u8], list: &mut List) -> Answer<1> {
     lent.unchanged(bytes);
     keys.back(&mut list.keys);
     multiplicities.back(&mut list.multiplicities);
+    holds.back(&mut list.holds);
     answered(number, answers, |_| 1)
 }
 
@@ -405,6 +513,7 @@ pub fn write(list: &List, out: &mut [u8]) -> Answer<1> {
     let call = "write";
     let mut keys = Lent::new(call, "keys", &list.keys);
     let mut multiplicities = Lent::new(call, "multiplicities", &list.multiplicities);
+    let mut holds = Lent::new(call, "holds", &list.holds);
     let mut lent = Lent::new(call, "out", out);
     let mut answers = answers(call, 1);
     let number = unsafe {
@@ -415,6 +524,8 @@ pub fn write(list: &List, out: &mut [u8]) -> Answer<1> {
             keys.len(),
             multiplicities.pointer(),
             multiplicities.len(),
+            holds.pointer(),
+            holds.len(),
             lent.pointer(),
             lent.len(),
             answers.pointer(),
@@ -423,6 +534,7 @@ pub fn write(list: &List, out: &mut [u8]) -> Answer<1> {
     };
     keys.unchanged(&list.keys);
     multiplicities.unchanged(&list.multiplicities);
+    holds.unchanged(&list.holds);
     lent.back(out);
     answered(number, answers, |_| 1)
 }
@@ -432,6 +544,7 @@ pub fn fill(list: &List, table: &mut [u64]) -> Answer<1> {
     let call = "fill";
     let mut keys = Lent::new(call, "keys", &list.keys);
     let mut multiplicities = Lent::new(call, "multiplicities", &list.multiplicities);
+    let mut holds = Lent::new(call, "holds", &list.holds);
     let mut lent = Lent::new(call, "table", table);
     let mut answers = answers(call, 1);
     let number = unsafe {
@@ -442,6 +555,8 @@ pub fn fill(list: &List, table: &mut [u64]) -> Answer<1> {
             keys.len(),
             multiplicities.pointer(),
             multiplicities.len(),
+            holds.pointer(),
+            holds.len(),
             lent.pointer(),
             lent.len(),
             answers.pointer(),
@@ -450,6 +565,7 @@ pub fn fill(list: &List, table: &mut [u64]) -> Answer<1> {
     };
     keys.unchanged(&list.keys);
     multiplicities.unchanged(&list.multiplicities);
+    holds.unchanged(&list.holds);
     lent.back(table);
     answered(number, answers, |_| 1)
 }

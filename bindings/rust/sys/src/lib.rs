@@ -9,7 +9,7 @@
 #[macro_use]
 mod symbol;
 
-/// Hands the nineteen declarations to the macro that is named.
+/// Hands the twenty-two declarations to the macro that is named.
 #[macro_export]
 macro_rules! functions {
     ($to:ident) => {
@@ -21,11 +21,50 @@ macro_rules! functions {
                 key_words: usize,
                 multiplicities: *mut u64,
                 places: usize,
+                holds: *mut u64,
+                hold_places: usize,
                 opcode: u64,
                 left_operand: u64,
                 right_operand: u64,
                 answers: *mut u64,
                 answer_words: usize,
+            );
+            fn u32_table_hold(
+                capacity: usize,
+                used: usize,
+                keys: *mut u64,
+                key_words: usize,
+                multiplicities: *mut u64,
+                places: usize,
+                holds: *mut u64,
+                hold_places: usize,
+                opcode: u64,
+                left_operand: u64,
+                right_operand: u64,
+                answers: *mut u64,
+                answer_words: usize,
+            );
+            fn u32_table_confirm(
+                capacity: usize,
+                used: usize,
+                keys: *const u64,
+                key_words: usize,
+                multiplicities: *mut u64,
+                places: usize,
+                holds: *mut u64,
+                hold_places: usize,
+                position: usize,
+            );
+            fn u32_table_drop(
+                capacity: usize,
+                used: usize,
+                keys: *const u64,
+                key_words: usize,
+                multiplicities: *const u64,
+                places: usize,
+                holds: *mut u64,
+                hold_places: usize,
+                position: usize,
             );
             fn u32_table_replay(
                 capacity: usize,
@@ -34,6 +73,8 @@ macro_rules! functions {
                 key_words: usize,
                 multiplicities: *mut u64,
                 places: usize,
+                holds: *mut u64,
+                hold_places: usize,
                 trace: *const u64,
                 trace_words: usize,
                 answers: *mut u64,
@@ -56,6 +97,8 @@ macro_rules! functions {
                 key_words: usize,
                 multiplicities: *const u64,
                 places: usize,
+                holds: *const u64,
+                hold_places: usize,
                 answers: *mut u64,
                 answer_words: usize,
             );
@@ -68,6 +111,8 @@ macro_rules! functions {
                 key_words: usize,
                 multiplicities: *mut u64,
                 places: usize,
+                holds: *mut u64,
+                hold_places: usize,
                 answers: *mut u64,
                 answer_words: usize,
             );
@@ -78,6 +123,8 @@ macro_rules! functions {
                 key_words: usize,
                 multiplicities: *const u64,
                 places: usize,
+                holds: *const u64,
+                hold_places: usize,
                 out: *mut u8,
                 byte_count: usize,
                 answers: *mut u64,
@@ -90,6 +137,8 @@ macro_rules! functions {
                 key_words: usize,
                 multiplicities: *const u64,
                 places: usize,
+                holds: *const u64,
+                hold_places: usize,
                 table: *mut u64,
                 table_words: usize,
                 answers: *mut u64,

@@ -3,13 +3,12 @@ use mathlib.Core.Path.{sym, ap, _∙_}
 use native.Mathlib.Omega.{arith}
 use borrow.Author.Needs.{needs}
 use Rattle.list_stored.specs.Stored.{readAnswer}
-use Rattle.c_answers.proofs.Exporting.{short, lent-short, work-done, refused}
-use Rattle.c_lists.proofs.Listed.{list-called}
+use Rattle.c_answers.proofs.Exporting.{short, list-short, list-called, work-done, refused}
 use Rattle.c_lists.proofs.read.Statement.{statement}
 use Rattle.c_lists.proofs.read.Tie as tie
 
 returns : tie.Need-returns
-returns c = (short _ _ _ (c .if1 .taken), (lent-short _ _ _ _ (c .if1 .taken), lent-short _ _ _ _ (c .if1 .taken)))
+returns c = (short _ _ _ (c .if1 .taken), list-short _ _ _ _ (c .if1 .taken))
 
 read-list-requires : tie.Need-read-list-requires
 read-list-requires c κs = search needs
@@ -35,24 +34,30 @@ same-length-2 c = search needs
 same-length-3 : tie.Need-same-length-3
 same-length-3 c = search needs
 
+same-length-4 : tie.Need-same-length-4
+same-length-4 c = search needs
+
 returns-2 : tie.Need-returns-2
 returns-2 c =
-    let call = c .before .before .before .before .before .before .before .read-list in
-    let left = c .before .before .before .before .before .before .before .before .before .before .if1 .left in (
+    let call = c .before .before .before .before .before .before .before .before .before .read-list in
+    let left = c .before .before .before .before .before .before .before .before .before .before .before .before .before .if1 .left in (
       work-done left (ap readAnswer (sym (c .before .answer .given .1)) ∙ call .ensures .answer) (omega arith),
       list-called _ _ _ _ _ _ _ _ left (call .ensures .left),
     )
 
-same-length-4 : tie.Need-same-length-4
-same-length-4 c = search needs
-
 same-length-5 : tie.Need-same-length-5
 same-length-5 c = search needs
 
+same-length-6 : tie.Need-same-length-6
+same-length-6 c = search needs
+
+same-length-7 : tie.Need-same-length-7
+same-length-7 c = search needs
+
 returns-3 : tie.Need-returns-3
 returns-3 c =
-    let call = c .before .before .before .before .before .before .before .before .read-list in
-    let left = c .before .before .before .before .before .before .before .before .before .before .before .if1 .left in
+    let call = c .before .before .before .before .before .before .before .before .before .before .read-list in
+    let left = c .before .before .before .before .before .before .before .before .before .before .before .before .before .before .if1 .left in
     let answer = c .before .before .answer2 in (
       refused (answer .given .0 .0) left (c .number .ensures) (ap readAnswer (sym (answer .given .1)) ∙ call .ensures .answer),
       list-called _ _ _ _ _ _ _ _ left (call .ensures .left),
@@ -71,7 +76,9 @@ read-spec =
     same-length
     same-length-2
     same-length-3
-    returns-2
     same-length-4
+    returns-2
     same-length-5
+    same-length-6
+    same-length-7
     returns-3)

@@ -4,13 +4,13 @@ use mathlib.Core.Path.{sym, ap, _∙_}
 use native.Mathlib.Omega.{arith}
 use borrow.Author.Needs.{needs}
 use Rattle.list_replay.specs.Replay.{replayedAnswer}
-use Rattle.c_answers.proofs.Exporting.{short-reported, lent-short, reported}
-use Rattle.c_lists.proofs.Listed.{list-called, told-with}
+use Rattle.c_answers.proofs.Exporting.{short-reported, list-short, list-called, reported}
+use Rattle.c_lists.proofs.Listed.{told-with}
 use Rattle.c_lists.proofs.replay.Statement.{statement}
 use Rattle.c_lists.proofs.replay.Tie as tie
 
 returns : tie.Need-returns
-returns c = (short-reported _ _ _ (c .if1 .taken), (lent-short _ _ _ _ (c .if1 .taken), lent-short _ _ _ _ (c .if1 .taken)))
+returns c = (short-reported _ _ _ (c .if1 .taken), list-short _ _ _ _ (c .if1 .taken))
 
 replay-requires : tie.Need-replay-requires
 replay-requires c κs = search needs
@@ -45,15 +45,15 @@ same-length-2 c = search needs
 same-length-3 : tie.Need-same-length-3
 same-length-3 c = search needs
 
-returns-2 : tie.Need-returns-2
-returns-2 c =
-    let call = c .before .before .before .before .before .before .before .replay in
-    let left = c .before .before .before .before .before .before .before .before .before .before .if1 .left in
-    let told = told-with _ 0 _ _ (ap replayedAnswer (sym (c .before .answer .given .1)) ∙ call .ensures .answer) (call .ensures .left) in
-    (reported left (told .0) (told .1) (omega arith), list-called _ _ _ _ _ _ _ _ left (call .ensures .left))
-
 same-length-4 : tie.Need-same-length-4
 same-length-4 c = search needs
+
+returns-2 : tie.Need-returns-2
+returns-2 c =
+    let call = c .before .before .before .before .before .before .before .before .before .replay in
+    let left = c .before .before .before .before .before .before .before .before .before .before .before .before .before .if1 .left in
+    let told = told-with _ 0 _ _ (ap replayedAnswer (sym (c .before .answer .given .1)) ∙ call .ensures .answer) (call .ensures .left) in
+    (reported left (told .0) (told .1) (omega arith), list-called _ _ _ _ _ _ _ _ left (call .ensures .left))
 
 same-length-5 : tie.Need-same-length-5
 same-length-5 c = search needs
@@ -61,10 +61,16 @@ same-length-5 c = search needs
 same-length-6 : tie.Need-same-length-6
 same-length-6 c = search needs
 
+same-length-7 : tie.Need-same-length-7
+same-length-7 c = search needs
+
+same-length-8 : tie.Need-same-length-8
+same-length-8 c = search needs
+
 returns-3 : tie.Need-returns-3
 returns-3 c =
-    let call = c .before .before .before .before .before .before .before .before .replay in
-    let left = c .before .before .before .before .before .before .before .before .before .before .before .if1 .left in
+    let call = c .before .before .before .before .before .before .before .before .before .before .replay in
+    let left = c .before .before .before .before .before .before .before .before .before .before .before .before .before .before .if1 .left in
     let told = told-with _ _ _ _ (ap replayedAnswer (sym (c .before .before .answer2 .given .1)) ∙ call .ensures .answer) (call .ensures .left) in
     (reported left (c .number .ensures ∙ told .0) (told .1) (omega arith), list-called _ _ _ _ _ _ _ _ left (call .ensures .left))
 
@@ -84,8 +90,10 @@ replay-spec =
     same-length
     same-length-2
     same-length-3
-    returns-2
     same-length-4
+    returns-2
     same-length-5
     same-length-6
+    same-length-7
+    same-length-8
     returns-3)

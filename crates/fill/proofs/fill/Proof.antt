@@ -1,7 +1,9 @@
--- `fill::fill` meets its contract: each way out is a lemma of proofs/Fillings.antt. Assumes nothing.
+-- `fill::fill` meets its contract: each way out is a lemma of proofs/Fillings.antt. The arrays that are lent on are those of the list that gets
+-- sections. Assumes nothing.
 use mathlib.Core.Path.{sym, _∙_}
 use native.Mathlib.Omega.{arith}
-use Rattle.list.proofs.JudgedLists.{judged-height, judged-refused}
+use Rattle.list.specs.Holds.{sectionList}
+use Rattle.list.proofs.HeldLists.{held-height, held-refused, held-judged}
 use Rattle.fill.proofs.Fillings.{fill-shape, fill-list, fill-short, fill-done}
 use borrow.Author.Needs.{needs}
 use borrow.Author.Tests.{not-true, not-false}
@@ -17,8 +19,8 @@ same-length c = search needs
 returns : tie.Need-returns
 returns c = fill-shape _ _ (sym (c .before .has-shape .ensures) ∙ not-true _ (c .if1 .taken))
 
-judge-list-requires : tie.Need-judge-list-requires
-judge-list-requires c κs = search needs
+judge-held-requires : tie.Need-judge-held-requires
+judge-held-requires c κs = search needs
 
 enum-known-reason : tie.Need-enum-known-reason
 enum-known-reason c = search needs
@@ -35,15 +37,16 @@ returns-2 c =
     let l = h .before .before in
     let t = l .before in
     let s = t .before in
-    let j = judged-height _ _ (sym (h .height .given .1) ∙ l .judge-list .ensures) in
+    let j = held-height _ _ (sym (h .height .given .1) ∙ l .judge-held .ensures) in
     fill-short _ _ (sym (s .has-shape .ensures) ∙ not-false _ (t .if1 .left)) (j .0) (omega arith)
 
 fill-sections-requires : tie.Need-fill-sections-requires
+unfolding sectionList
 fill-sections-requires c κs =
     let h = c .before .before .before in
     let l = h .before .before in
-    let j = judged-height _ _ (sym (h .height .given .1) ∙ l .judge-list .ensures) in
-    (j .0, omega arith)
+    let j = held-height _ _ (sym (h .height .given .1) ∙ l .judge-held .ensures) in
+    (held-judged _ (j .0), omega arith)
 
 same-length-3 : tie.Need-same-length-3
 same-length-3 c = search needs
@@ -54,19 +57,20 @@ returns-3 c =
     let l = r .before .before in
     let t = l .before in
     let s = t .before in
-    fill-list _ _ (sym (s .has-shape .ensures) ∙ not-false _ (t .if1 .left)) (judged-refused _ _ (sym (r .reason .given .1) ∙ l .judge-list .ensures))
+    fill-list _ _ (sym (s .has-shape .ensures) ∙ not-false _ (t .if1 .left)) (held-refused _ _ (sym (r .reason .given .1) ∙ l .judge-held .ensures))
 
 same-length-4 : tie.Need-same-length-4
 same-length-4 c = search needs
 
 returns-4 : tie.Need-returns-4
+unfolding sectionList
 returns-4 c =
     let f = c .before .before in
     let h = f .before .before .before .before in
     let l = h .before .before in
     let t = l .before in
     let s = t .before in
-    let j = judged-height _ _ (sym (h .height .given .1) ∙ l .judge-list .ensures) in
+    let j = held-height _ _ (sym (h .height .given .1) ∙ l .judge-held .ensures) in
     fill-done _ _ (sym (s .has-shape .ensures) ∙ not-false _ (t .if1 .left)) (j .0) (omega arith) (f .fill-sections .ensures .0) (f .fill-sections .ensures .1)
 
 pub fill-spec : {M : Type 1} → statement M
@@ -76,7 +80,7 @@ fill-spec =
     has-shape-requires
     same-length
     returns
-    judge-list-requires
+    judge-held-requires
     enum-known-reason
     enum-known-height
     same-length-2

@@ -17,7 +17,7 @@ use Rattle.isa.specs.Entries.{admit, height}
 use Rattle.isa.proofs.Entries.{height-bound}
 use Rattle.list.specs.Lists.{U32List, u32List, used, keyAt, entryAt, multiplicityAt, judgeList}
 use Rattle.list.specs.Heights.{listHeight}
-use Rattle.list.proofs.JudgedLists.{list-admitted, admitted-told, refused-told, entry-admissible, every-place}
+use Rattle.list.proofs.JudgedLists.{list-admitted, admitted-told, refused-told, entry-admissible}
 use Rattle.list.proofs.JudgedLists.{heightTo, height-none, height-more, list-height}
 use Rattle.table.specs.Columns.{mainWidth}
 use Rattle.fill_results.specs.declared.Choice.{Choice}
@@ -43,7 +43,7 @@ no-words l table = rw (rows-none l)
 -- a turn adds the height of the entry at its place
 rows-turn : (l : U32List) (i : ℕ) {row h : ℕ} {x : U32TableEntry}
     → row ≡ heightTo l i → h ≡ height x → x ≡ entryAt l i → row + h ≡ heightTo l (i + 1)
-rows-turn l i e f g = let d = height-more l i (every-place l i) in rw (add-one i) (cc)
+rows-turn l i e f g = let d = height-more l i in rw (add-one i) (cc)
 
 all-rows : (l : U32List) (i row : ℕ) → i ≡ used l → row ≡ heightTo l i → Rows row ≡ Rows (listHeight l)
 all-rows l i row e f = let d = list-height l in cc

@@ -18,7 +18,7 @@ use Rattle.list.specs.declared.Judged.the-variants.{Height}
 use Rattle.words.proofs.Judgements.{first-hit, first-step, first-done, first-start}
 use Rattle.list.proofs.JudgedLists.{place-fine, place-refused, place-full, admitted-told-by, refused-told-by}
 use Rattle.list.proofs.JudgedLists.{places-declined, places-fine}
-use Rattle.list.proofs.JudgedLists.{every-place, heightTo, height-more, height-none, list-height}
+use Rattle.list.proofs.JudgedLists.{heightTo, height-more, height-none, list-height}
 use Rattle.list.proofs.judge_places.Statement.{statement}
 use Rattle.list.proofs.judge_places.Tie as tie
 
@@ -26,7 +26,7 @@ use Rattle.list.proofs.judge_places.Tie as tie
 height-turn : (l : U32List) (i : ℕ) {h r : ℕ} {x : U32TableEntry}
     → h ≡ heightTo l i → r ≡ height x → x ≡ admitted (keyAt l i) → h + r ≡ heightTo l (i + 1)
 unfolding entryAt
-height-turn l i e f g = let d = height-more l i (every-place l i) in rw (add-one i) (cc)
+height-turn l i e f g = let d = height-more l i in rw (add-one i) (cc)
 
 -- after the last turn
 all-judged : (stored : Bool) (l : U32List) (i : ℕ) {h : ℕ}

@@ -1,4 +1,5 @@
--- `list_record::plan` meets its contract: the height is the list's, far below 2^63, so its padded height is the one that is due. Assumes nothing.
+-- `list_record::plan` meets its contract: the height is that of what gets sections, far below 2^63, so its padded height is the one that is due.
+-- Assumes nothing.
 use Prim.Native.Nat.{ℕ, _^_, _≤_}
 use mathlib.Core.Path.{_≡_, sym, _∙_}
 use mathlib.Core.List.{[], _∷_}
@@ -8,28 +9,29 @@ use Rattle.words.specs.Answers.{done, declined}
 use Rattle.words.specs.declared.Refusal.{Refusal}
 use Rattle.words.proofs.Outcomes.{answered-fine, answered-declined}
 use Rattle.list.specs.declared.Judged.the-variants.{Height, Refused}
-use Rattle.list.specs.Lists.{U32List}
-use Rattle.list.specs.Heights.{listHeight, judgedList}
+use Rattle.list.specs.Heights.{listHeight}
+use Rattle.list.specs.Holds.{HeldList, sectionList, judgedHeld}
 use Rattle.list_record.specs.Plan.{paddedHeight, planAll}
-use Rattle.list.proofs.JudgedLists.{judged-height, judged-refused, list-height-small}
+use Rattle.list.proofs.JudgedLists.{list-height-small}
+use Rattle.list.proofs.HeldLists.{held-judged, held-height, held-refused}
 use Rattle.list_record.proofs.plan.Statement.{statement}
 use Rattle.list_record.proofs.plan.Tie as tie
 
-planned : (l : U32List) {h padded : ℕ}
-    → Height h ≡ judgedList l → (h ≤ 2 ^ 63 → padded ≡ paddedHeight h) → done (h ∷ padded ∷ []) ≡ planAll l
+planned : (h : HeldList) {height padded : ℕ}
+    → Height height ≡ judgedHeld h → (height ≤ 2 ^ 63 → padded ≡ paddedHeight height) → done (height ∷ padded ∷ []) ≡ planAll h
 unfolding planAll
-planned l {h} {padded} e f =
-    let j = judged-height l h e in
-    let p = f (omega (arith, j .1, list-height-small l (j .0))) in
-    let q : done (h ∷ padded ∷ []) ≡ done (listHeight l ∷ paddedHeight (listHeight l) ∷ []) = cc in
+planned h {height} {padded} e f =
+    let j = held-height h height e in
+    let p = f (omega (arith, j .1, list-height-small (sectionList h) (held-judged h (j .0)))) in
+    let q : done (height ∷ padded ∷ []) ≡ done (listHeight (sectionList h) ∷ paddedHeight (listHeight (sectionList h)) ∷ []) = cc in
     q ∙ sym (answered-fine _ (j .0))
 
-refused : (l : U32List) {k : Refusal} → Refused k ≡ judgedList l → declined k ≡ planAll l
+refused : (h : HeldList) {k : Refusal} → Refused k ≡ judgedHeld h → declined k ≡ planAll h
 unfolding planAll
-refused l {k} e = sym (answered-declined _ (judged-refused l k e))
+refused h {k} e = sym (answered-declined _ (held-refused h k e))
 
-judge-list-requires : tie.Need-judge-list-requires
-judge-list-requires c κs = search needs
+judge-held-requires : tie.Need-judge-held-requires
+judge-held-requires c κs = search needs
 
 enum-known-height : tie.Need-enum-known-height
 enum-known-height c = search needs
@@ -42,11 +44,11 @@ enum-known-reason c = search needs
 
 returns : tie.Need-returns
 returns c =
-    planned _ (sym (c .before .before .height .given .1) ∙ c .before .before .before .before .judge-list .ensures) (c .padded-height .ensures .0)
+    planned _ (sym (c .before .before .height .given .1) ∙ c .before .before .before .before .judge-held .ensures) (c .padded-height .ensures .0)
 
 returns-2 : tie.Need-returns-2
-returns-2 c = refused _ (sym (c .before .reason .given .1) ∙ c .before .before .before .judge-list .ensures)
+returns-2 c = refused _ (sym (c .before .reason .given .1) ∙ c .before .before .before .judge-held .ensures)
 
 pub plan-spec : {M : Type 1} → statement M
 plan-spec =
-    tie.close (tie.spec judge-list-requires enum-known-height padded-height-requires enum-known-reason returns returns-2)
+    tie.close (tie.spec judge-held-requires enum-known-height padded-height-requires enum-known-reason returns returns-2)

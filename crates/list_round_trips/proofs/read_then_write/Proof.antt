@@ -22,13 +22,13 @@ same-length c = search needs
 same-length-2 : tie.Need-same-length-2
 same-length-2 c = search needs
 
-returns : tie.Need-returns
-returns c =
-    let read-list = c .before .before .before .before .before .before .before .before .read-list in
-    read-refused _ _ _ _ _ (rw (c .before .answer .given .1) at (read-list .ensures))
-
 same-length-3 : tie.Need-same-length-3
 same-length-3 c = search needs
+
+returns : tie.Need-returns
+returns c =
+    let read-list = c .before .before .before .before .before .before .before .before .before .before .read-list in
+    read-refused _ _ _ _ _ (rw (c .before .answer .given .1) at (read-list .ensures))
 
 same-length-4 : tie.Need-same-length-4
 same-length-4 c = search needs
@@ -36,11 +36,17 @@ same-length-4 c = search needs
 same-length-5 : tie.Need-same-length-5
 same-length-5 c = search needs
 
+same-length-6 : tie.Need-same-length-6
+same-length-6 c = search needs
+
+same-length-7 : tie.Need-same-length-7
+same-length-7 c = search needs
+
 returns-2 : tie.Need-returns-2
 returns-2 c =
-    let shared-slice-known = c .before .before .before .before .before .before .before .before .before .before .before .before .before .before .before .before .before .before .before .shared-slice-known in
-    let read-list = c .before .before .before .before .before .before .before .before .before .before .before .before .before .read-list in
-    let enum-told = c .before .before .before .before .before .before .enum-told in
+    let shared-slice-known = c .before .before .before .before .before .before .before .before .before .before .before .before .before .before .before .before .before .before .before .before .before .before .before .before .shared-slice-known in
+    let read-list = c .before .before .before .before .before .before .before .before .before .before .before .before .before .before .before .before .read-list in
+    let enum-told = c .before .before .before .before .before .before .before .enum-told in
     then-written _ _ _ _ _ _ _ (λ j. shared-slice-known .given j .fits) (rw (enum-told .given .1) at (read-list .ensures)) (c .before .before .write-list .ensures)
 
 pub read-then-write-spec : {M : Type 1} → statement M
@@ -53,8 +59,10 @@ read-then-write-spec =
     write-list-requires
     same-length
     same-length-2
-    returns
     same-length-3
+    returns
     same-length-4
     same-length-5
+    same-length-6
+    same-length-7
     returns-2)

@@ -23,7 +23,7 @@ slice-reshare-prefix-read-list c =
 slice-aggregate-read-list : tie.Need-slice-aggregate-read-list
 slice-aggregate-read-list c =
     let write-list = c .before .before .before .before .before .before .write-list in
-    sym (length-take-le _ (write-list .last .1 .1 .1 .0) (written-within _ _ _ _ (rw (c .before .before .n .given .1) at (write-list .ensures))))
+    sym (length-take-le _ (write-list .last .1 .1 .1 .1 .0) (written-within _ _ _ _ (rw (c .before .before .n .given .1) at (write-list .ensures))))
 
 read-list-requires : tie.Need-read-list-requires
 read-list-requires c κs = search needs
@@ -45,11 +45,14 @@ same-length-3 c = search needs
 same-length-4 : tie.Need-same-length-4
 same-length-4 c = search needs
 
+same-length-5 : tie.Need-same-length-5
+same-length-5 c = search needs
+
 returns-2 : tie.Need-returns-2
 returns-2 c =
-    let write-list = c .before .before .before .before .before .before .before .before .before .before .before .before .before .write-list in
-    let n = c .before .before .before .before .before .before .before .before .before .n in
-    let read-list = c .before .before .before .before .read-list in
+    let write-list = c .before .before .before .before .before .before .before .before .before .before .before .before .before .before .before .before .write-list in
+    let n = c .before .before .before .before .before .before .before .before .before .before .before .before .n in
+    let read-list = c .before .before .before .before .before .before .read-list in
     then-read _ _ _ _ _ _ _ (rw (n .given .1) at (write-list .ensures)) (read-list .ensures)
 
 pub write-then-read-spec : {M : Type 1} → statement M
@@ -67,4 +70,5 @@ write-then-read-spec =
     same-length-2
     same-length-3
     same-length-4
+    same-length-5
     returns-2)

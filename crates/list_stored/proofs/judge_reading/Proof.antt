@@ -6,16 +6,16 @@ use Rattle.list_stored.proofs.Reasons.{whole, whole-room, read-shape, r
 use Rattle.list_stored.proofs.judge_reading.Statement.{statement}
 use Rattle.list_stored.proofs.judge_reading.Tie as tie
 
-list-shape-requires : tie.Need-list-shape-requires
-list-shape-requires c κs = search needs
+held-shape-requires : tie.Need-held-shape-requires
+held-shape-requires c κs = search needs
 
 enum-known-reason : tie.Need-enum-known-reason
 enum-known-reason c = search needs
 
 returns : tie.Need-returns
 returns c =
-    let list-shape = c .before .before .before .list-shape in
-    sym (read-shape _ _ (sym (list-shape .ensures) ∙ c .before .reason .given .1))
+    let held-shape = c .before .before .before .held-shape in
+    sym (read-shape _ _ (sym (held-shape .ensures) ∙ c .before .reason .given .1))
 
 enum-told : tie.Need-enum-told
 enum-told c = search needs
@@ -28,10 +28,10 @@ enum-known-reason-2 c = search needs
 
 returns-2 : tie.Need-returns-2
 returns-2 c =
-    let list-shape = c .before .before .before .before .before .before .list-shape in
+    let held-shape = c .before .before .before .before .before .before .held-shape in
     let enum-told = c .before .before .before .before .enum-told in
     let torn = c .before .before .before .torn in
-    sym (read-torn _ _ (sym (list-shape .ensures) ∙ enum-told .given .1) (sym (torn .ensures) ∙ c .before .reason2 .given .1))
+    sym (read-torn _ _ (sym (held-shape .ensures) ∙ enum-told .given .1) (sym (torn .ensures) ∙ c .before .reason2 .given .1))
 
 enum-told-2 : tie.Need-enum-told-2
 enum-told-2 c = search needs
@@ -41,12 +41,12 @@ stored-n-requires c κs = let w = whole _ (sym (c .before .before .torn .ensures
 
 returns-3 : tie.Need-returns-3
 returns-3 c =
-    let list-shape = c .before .before .before .before .before .before .before .before .list-shape in
+    let held-shape = c .before .before .before .before .before .before .before .before .held-shape in
     let enum-told = c .before .before .before .before .before .before .enum-told in
     let torn = c .before .before .before .before .before .torn in
     let enum-told2 = c .before .before .before .enum-told2 in
     sym
-    (read-full _ _ (sym (list-shape .ensures) ∙ enum-told .given .1) (sym (torn .ensures) ∙ enum-told2 .given .1)
+    (read-full _ _ (sym (held-shape .ensures) ∙ enum-told .given .1) (sym (torn .ensures) ∙ enum-told2 .given .1)
     (let e = c .before .before .stored-n .ensures in let h = c .if1 .taken in omega arith))
 
 judge-content-requires : tie.Need-judge-content-requires
@@ -59,21 +59,21 @@ judge-content-requires c κs =
 
 returns-4 : tie.Need-returns-4
 returns-4 c =
-    let list-shape = c .before .before .before .before .before .before .before .before .before .list-shape in
+    let held-shape = c .before .before .before .before .before .before .before .before .before .held-shape in
     let enum-told = c .before .before .before .before .before .before .before .enum-told in
     let torn = c .before .before .before .before .before .before .torn in
     let enum-told2 = c .before .before .before .before .enum-told2 in
     let stored-n = c .before .before .before .stored-n in
     c .judge-content .ensures
     ∙ sym
-    (read-content _ _ (sym (list-shape .ensures) ∙ enum-told .given .1) (sym (torn .ensures) ∙ enum-told2 .given .1)
+    (read-content _ _ (sym (held-shape .ensures) ∙ enum-told .given .1) (sym (torn .ensures) ∙ enum-told2 .given .1)
     (let e = stored-n .ensures in let h = c .before .if1 .left in omega arith))
 
 pub judge-reading-spec : {M : Type 1} → statement M
 judge-reading-spec =
     tie.close
     (tie.spec
-    list-shape-requires
+    held-shape-requires
     enum-known-reason
     returns
     enum-told

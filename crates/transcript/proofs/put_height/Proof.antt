@@ -32,7 +32,7 @@ array-borrow-prefix-table c = search needs
 
 slice-aggregate-put-calls : tie.Need-slice-aggregate-put-calls
 slice-aggregate-put-calls c =
-    let args = c .before .before .before .before .before .before .before .args in
+    let args = c .before .before .before .before .before .before .before .before .args in
     sym (length-zeros (mainWidth * args .padded) (mainWidth * maxPrintedRows) (search needs))
 
 array-borrow-prefix-aux : tie.Need-array-borrow-prefix-aux
@@ -40,12 +40,12 @@ array-borrow-prefix-aux c = search needs
 
 slice-aggregate-put-calls-2 : tie.Need-slice-aggregate-put-calls-2
 slice-aggregate-put-calls-2 c =
-    let args = c .before .before .before .before .before .before .before .before .args in
+    let args = c .before .before .before .before .before .before .before .before .before .args in
     sym (length-zeros (auxWidth * args .padded) (auxWidth * maxPrintedRows) (search needs))
 
 put-calls-requires : tie.Need-put-calls-requires
 put-calls-requires c κs =
-    let args = c .before .before .before .before .before .before .before .before .args in
+    let args = c .before .before .before .before .before .before .before .before .before .args in
     let l = length-zeros (mainWidth * args .padded) (mainWidth * maxPrintedRows) (search needs) in
     (search needs, search needs, omega arith)
 
@@ -54,7 +54,7 @@ same-length-2 c = search needs
 
 returns-2 : tie.Need-returns-2
 returns-2 c =
-    let args = c .before .before .before .before .before .before .before .before .before .before .before .before .before .args in
+    let args = c .before .before .before .before .before .before .before .before .before .before .before .before .before .before .args in
     let if1 = c .before .before .before .before .before .before .before .before .if1 in
     let put-calls = c .before .before .before .before .put-calls in
     let table = take-zeros (mainWidth * args .padded) (mainWidth * maxPrintedRows) (search needs) in

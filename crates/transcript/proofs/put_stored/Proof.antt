@@ -10,6 +10,9 @@ slice-aggregate-read-list c = search needs
 slice-aggregate-read-list-2 : tie.Need-slice-aggregate-read-list-2
 slice-aggregate-read-list-2 c = search needs
 
+slice-aggregate-read-list-3 : tie.Need-slice-aggregate-read-list-3
+slice-aggregate-read-list-3 c = search needs
+
 read-list-requires : tie.Need-read-list-requires
 read-list-requires c κs = search needs
 
@@ -28,6 +31,9 @@ slice-aggregate-put-list c = search needs
 slice-aggregate-put-list-2 : tie.Need-slice-aggregate-put-list-2
 slice-aggregate-put-list-2 c = search needs
 
+slice-aggregate-put-list-3 : tie.Need-slice-aggregate-put-list-3
+slice-aggregate-put-list-3 c = search needs
+
 put-list-requires : tie.Need-put-list-requires
 put-list-requires c κs = search needs
 
@@ -37,7 +43,7 @@ same-length c = search needs
 returns : tie.Need-returns
 returns c =
     let answer = c .before .before .before .before .before .answer in
-    let read-list = c .before .before .before .before .before .before .before .before .before .before .read-list in
+    let read-list = c .before .before .before .before .before .before .before .before .before .before .before .read-list in
     let put-reason = c .before .before .put-reason in
     reading-refused _ _ _ (answer .given .0 .0) (rw (answer .given .1) at (read-list .ensures)) (put-reason .ensures)
 
@@ -46,8 +52,8 @@ same-length-2 c = search needs
 
 returns-2 : tie.Need-returns-2
 returns-2 c =
-    let enum-told = c .before .before .before .before .before .before .enum-told in
-    let read-list = c .before .before .before .before .before .before .before .before .before .before .before .read-list in
+    let enum-told = c .before .before .before .before .before .before .before .enum-told in
+    let read-list = c .before .before .before .before .before .before .before .before .before .before .before .before .before .read-list in
     let put-list = c .before .before .put-list in
     reading-made _ _ _ _ (rw (enum-told .given .1) at (read-list .ensures)) (put-list .ensures)
 
@@ -57,12 +63,14 @@ put-stored-spec =
     (tie.spec
     slice-aggregate-read-list
     slice-aggregate-read-list-2
+    slice-aggregate-read-list-3
     read-list-requires
     enum-known-answer
     put-reason-requires
     enum-told
     slice-aggregate-put-list
     slice-aggregate-put-list-2
+    slice-aggregate-put-list-3
     put-list-requires
     same-length
     returns

@@ -7,10 +7,10 @@ use Rattle.vectors_lists.proofs.fill_up.Statement.{statement}
 use Rattle.vectors_lists.proofs.fill_up.Tie as tie
 
 abbrev Inv-loop : tie.InvT-loop
-Inv-loop n keys₀ multiplicities₀ counts₀ sizes₀ i₀ keys multiplicities counts sizes i = (length keys ≡ length keys₀) × (length multiplicities ≡ length multiplicities₀)
+Inv-loop n keys₀ multiplicities₀ holds₀ counts₀ sizes₀ i₀ keys multiplicities holds counts sizes i = (length keys ≡ length keys₀) × (length multiplicities ≡ length multiplicities₀) × (length holds ≡ length holds₀)
 
 abbrev μ-loop : tie.MeasureT-loop
-μ-loop n keys₀ multiplicities₀ counts₀ sizes₀ i₀ keys multiplicities counts sizes i = n - i
+μ-loop n keys₀ multiplicities₀ holds₀ counts₀ sizes₀ i₀ keys multiplicities holds counts sizes i = n - i
 
 loop-holds : tie.Need-loop-holds Inv-loop μ-loop
 loop-holds c = search needs
@@ -40,6 +40,9 @@ same-length c = search needs
 same-length-2 : tie.Need-same-length-2 Inv-loop μ-loop
 same-length-2 c = search needs
 
+same-length-3 : tie.Need-same-length-3 Inv-loop μ-loop
+same-length-3 c = search needs
+
 returns : tie.Need-returns Inv-loop μ-loop
 returns c = search needs
 
@@ -58,4 +61,5 @@ fill-up-spec =
     loop-again
     same-length
     same-length-2
+    same-length-3
     returns)
