@@ -27,7 +27,7 @@ the fit of a proof. The gate tries those of the folders `must-fail` and fails if
 by `tests/must-fail-more`, so that the gate stays short. Made by `tools/must_fail_table.py`.
 
 A fact is named by its proof: *function*: `returns` is that what the function ensures holds where it returns, `loop-again` that a loop keeps its
-invariant, `NAME-requires` that what NAME requires holds where it is called; any other name is a lemma's.
+invariant, `NAME-requires` that what NAME requires holds where it is called; any other name is a lemma's. A `?` stands where an edit was not tried yet.
 """
 
 

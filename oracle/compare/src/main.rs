@@ -140,7 +140,7 @@ fn print_counts(counts: &Counts) {
         counts.lookups[0], counts.lookups[1], counts.lookups[2], counts.lookups[3]
     );
     println!("multiplicities past 32 bits, entries {} recordings {}", counts.large[0], counts.large[1]);
-    println!("bases of pow of p or more, entries {} held {} recordings {}", counts.raw[0], counts.raw[1], counts.raw[2]);
+    println!("bases of pow of p or more, entries {} on lists {} recordings {}", counts.raw[0], counts.raw[1], counts.raw[2]);
     println!(
         "heights {} recordings {} orders {} written and read {} element operations {}",
         counts.heights, counts.recordings, counts.orders, counts.round_trips, counts.elements
