@@ -24,7 +24,7 @@ KIND = {
     "field": "call", "xfield": "call", "isa": "call", "list_record": "call", "list_replay": "call", "list_stored": "call", "check_table": "call", "fill": "call",
     "extend": "call", "client_sum": "call", "lookup": "call", "lookup_sums": "call", "archive": "call", "transcript": "call", "sums": "theory", "air": "theory",
     "archive_trips": "theory",
-    "row_bound": "theory", "four_calls": "theory", "client_law": "theory", "list_laws": "theory", "list_round_trips": "theory", "u32list_example": "theory",
+    "row_bound": "theory", "four_calls": "theory", "client_law": "theory", "list_laws": "theory", "list_shared": "theory", "shared_law": "theory", "list_round_trips": "theory", "u32list_example": "theory",
     "u32list": "program", "u32check": "program", "u32archive": "program", "batches": "call", "u32batch": "program", "u32_table": "program",
 }  # fmt: skip
 
@@ -32,12 +32,12 @@ KIND = {
 ROOMS = {
     "words, entries": {"words": 1, "isa": 1},
     "elements": {"field": 5, "xfield": 5},
-    "lists": {"list": 1, "list_record": 0, "list_replay": 0, "list_laws": 0, "list_bytes": 1, "list_repeats": 2, "list_stored": 1, "list_round_trips": 1},
+    "lists": {"list": 1, "list_record": 0, "list_replay": 0, "list_laws": 0, "list_shared": 2, "list_bytes": 1, "list_repeats": 2, "list_stored": 1, "list_round_trips": 1},
     "table": {"table": 5, "sums": 5},
     "check": {"air": 5, "check_rows": 5, "check_plain": 6, "check_pairs": 5, "check_search": 5, "check_table": 5},
     "filling": {"fill_results": 7, "fill_sections": 7, "fill": 7, "extend": 7},
     "the four calls": {"row_bound": 7, "four_calls": 7},
-    "the other side": {"client_sum": 8, "client_law": 8},
+    "the other side": {"client_sum": 8, "client_law": 8, "shared_law": 8},
     "programs": {"text": 9, "transcript": 9, "numbers": 10, "names": 11, "streams": 12, "u32list_example": 9, "u32list": 12, "table_text": 10, "table_input": 11, "u32check": 11},
     "lookup tables": {"lookup": 13, "lookup_sums": 13},
     "batches": {"batches": 14, "batch_text": 14, "u32batch": 14},

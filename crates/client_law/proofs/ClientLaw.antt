@@ -75,7 +75,7 @@ module _ (h : HeldList) (es : List U32TableEntry) (table aux challenges : List �
       subst (λ (x : Ext). NoneRefuses h table aux challenges (listHeight l) (elementWords x)) sums-same
       (none-refuses h table aux challenges fills extends)
 
-  sums-agree : SumsAgree h es table aux challenges
+  pub sums-agree : SumsAgree h es table aux challenges
   unfolding clientAll
   sums-agree = record {
     client = answered-fine (elementWords theSum) asks;
@@ -136,12 +136,12 @@ replay-is-server h trace table aux challenges fresh z n lent =
 
 -- ---- any calls
 
-as-it-is : (k : U32TableEntry) → judgeAsItIs k ≡ Fine → admitted k ≡ k
+pub as-it-is : (k : U32TableEntry) → judgeAsItIs k ≡ Fine → admitted k ≡ k
 as-it-is k q = admissible-same k (judged-admissible k q)
 
 module _ (challenges : List ℕ) where
   -- the keys are admitted, and the sum over the places is the client's over what was counted
-  abbrev Priced : View → List U32TableEntry → Type 0
+  abbrev pub Priced : View → List U32TableEntry → Type 0
   Priced v es = EachPlace PlaceAdmitted v × (termSum (challengesOf challenges) v ≡ clientSum (requestWords es) challenges)
 
   -- one more of an admitted key
@@ -156,7 +156,7 @@ module _ (challenges : List ℕ) where
       ∙ ap (λ (g : U32TableEntry). addX (clientSum (requestWords es) challenges) (invX (entryDenominator c g))) (sym (as-it-is k fine))
       ∙ client-more challenges es k
 
-  priced-carried : Carried Priced
+  pub priced-carried : Carried Priced
   priced-carried =
       let c = challengesOf challenges in
       record {
