@@ -4,7 +4,7 @@
     rt must-fail && tests/must-fail-more && tools/must_fail_table.py > page && mv page docs/MUST-FAIL.md
 
 Reads the edits' own comments and what the prover said of each (target/must-fail, target/must-fail-more). Ends with status 1 where an edit was not tried, and where its
-first error shows only that the proof no longer fits the code (a name that is not there), which says nothing of the contract. With --keep an edit that was not tried
+first error shows only that the proof no longer fits the code (a name or a field that is not there), which says nothing of the contract. With --keep an edit that was not tried
 here keeps the fact that the page names already: for use after the edits of some crates were tried.
 
     tools/must_fail_table.py --check
@@ -18,7 +18,7 @@ import sys
 
 ROOT = pathlib.Path(__file__).resolve().parent.parent
 # first errors that show nothing
-SHAPE_ONLY = ("that can be named from here", "is not in scope")
+SHAPE_ONLY = ("that can be named from here", "is not in scope", "has no field")
 
 HEAD = """# Must-fail edits
 
@@ -42,10 +42,13 @@ def comment(edit):
 
 def first_error(log, folder):
     """The file, the declaration and the message of the first error that is no consequence of another."""
-    for line in log.read_text().splitlines():
+    logged = log.read_text().splitlines()
+    for k, line in enumerate(logged):
         found = re.match(r"(?:note: )?(\S+?):\d+:\d+: error: (.*)", line)
         if found:
             path, message = found.groups()
+            if logged[k + 1 :] and logged[k + 1].startswith("  "):
+                message += " " + logged[k + 1].strip()
             if "was not admitted (it has holes" in message:
                 continue
             named = re.match(r"`([^`]+)`: (.*)", message)
