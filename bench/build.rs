@@ -30,12 +30,13 @@ const NAMES: [&str; 22] = [
     "restore",
 ];
 
-/// The symbol of a library whose lists have no holds; of it record has other arguments, and extend and check have these.
+/// The symbols of libraries in which record has other arguments, while extend and check have these: of lists with no holds, and with one recorder.
 const WITHOUT_HOLDS: &str = "u32_table_abi_1";
+const ONE_RECORDER: &str = "u32_table_abi_2";
 
 fn main() {
     println!("cargo::rerun-if-env-changed=EARLIER_LIB");
-    println!("cargo::rustc-check-cfg=cfg(earlier, without_holds)");
+    println!("cargo::rustc-check-cfg=cfg(earlier, without_holds, one_recorder)");
     if let Some(folder) = env::var_os("EARLIER_LIB") {
         let library = PathBuf::from(folder).join("libu32_table.a");
         let out = PathBuf::from(env::var_os("OUT_DIR").unwrap());
@@ -43,6 +44,8 @@ fn main() {
         let has = |symbol: &str| content.windows(symbol.len()).any(|name| name == symbol.as_bytes());
         if has(WITHOUT_HOLDS) {
             println!("cargo::rustc-cfg=without_holds");
+        } else if has(ONE_RECORDER) {
+            println!("cargo::rustc-cfg=one_recorder");
         } else {
             assert!(env::var("DEP_U32_TABLE_SYMBOL").is_ok_and(|symbol| has(&symbol)), "an earlier library of other signatures");
         }

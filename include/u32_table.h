@@ -7,22 +7,24 @@
  *
  * (tests/ffi/example.c is such a program.) A program that includes this header needs a library of these signatures, or it does not link.
  *
- * They allocate nothing, keep nothing between calls, use of the C library only memcpy and memset, and may run on many threads at once.
+ * They allocate nothing, keep nothing between calls, use of the C library only memcpy and memset, and may run on many threads at once; calls that share
+ * an array which one of them may write are made one after the other.
  *
- * Stack. u32_table_read takes up to 120 KB of it (a KB is 1,000 bytes), u32_table_write 52 KB, u32_table_fill 12 KB, each of the others 2 KB.
+ * Stack. Four functions copy the entries of a list: u32_table_write takes up to 190 KB of stack (a KB is 1,000 bytes), u32_table_fill 140 KB,
+ * u32_table_read 120 KB, u32_table_plan 70 KB. Each of the others takes up to 2 KB.
  *
  * Arrays. Each is a pointer and the number of its elements (words of 64 bits, keys of 16 bits, or bytes). The caller sees to what the proof takes for
- * granted: a pointer is aligned, that many elements are there, and no array that a call may write overlaps another array of the same call. A
- * pointer to 0 elements may be NULL: nothing is read or written there. Nothing else is asked of any argument: every number and every content
- * is answered.
+ * granted: a pointer is aligned, that many elements are there, and no array that a call may write overlaps another array of the same call: a
+ * recorder's own arrays and the other recorder's neither. A pointer to 0 elements may be NULL: nothing is read or written there. Nothing else is
+ * asked of any argument: every number and every content is answered.
  *
  * Numbers. Each function returns 0 where the work is done, and else the number of the first reason to decline, in the order that its comment
  * gives. After a refusal every array is as it was. `answers` receives what a call answers besides its number. Where it has fewer words
  * than U32_TABLE_.._ANSWERS says, the call returns U32_TABLE_SHAPE before anything else is looked at. Words past those stated are not
  * touched.
  *
- * u32_table_replay alone is otherwise: it makes many steps and ends at the first that is refused. The list is then as the steps before it made it,
- * and `answers` says on a refusal too how many these are.
+ * u32_table_replay alone is otherwise: it makes many steps and ends at the first that is refused. The list, and the other recorder's arrays, are
+ * then as the steps before it made them, and `answers` says on a refusal too how many these are.
  *
  * Later libraries may have more numbers than those named here.
  *
@@ -41,13 +43,13 @@ extern "C" {
 /* The number of the signatures below, as a symbol of the library: each program names it here, so one that was compiled for other signatures than
  * the library has does not link. The number is raised whenever a signature changes: here, in crates/u32_table and in the Rust crate. A function that
  * is added changes no signature: a program that calls it does not link with a library that lacks it. */
-uint64_t u32_table_abi_2(void);
+uint64_t u32_table_abi_3(void);
 #ifdef __has_attribute
 #if __has_attribute(retain)
 __attribute__((retain))
 #endif
 #endif
-__attribute__((used)) static uint64_t (*const u32_table_abi)(void) = u32_table_abi_2;
+__attribute__((used)) static uint64_t (*const u32_table_abi)(void) = u32_table_abi_3;
 
 /* Reasons to decline. */
 enum {
@@ -56,19 +58,19 @@ enum {
     U32_TABLE_STRANGER = 2,   /* an opcode that is none of the six; in u32_table_replay, none of the ten */
     U32_TABLE_WIDE = 3,       /* an operand outside its range; the left one of pow has none but in stored bytes */
     U32_TABLE_BARE_LOG = 4,   /* log_2_floor of 0 */
-    U32_TABLE_COUNT_FULL = 5, /* a multiplicity above U32_TABLE_P - 1; in recording and holding, if count plus holds and one more would pass that */
-    U32_TABLE_LIST_FULL = 6,  /* a new key and no unused place; in reading, more entries than places */
+    U32_TABLE_COUNT_FULL = 5, /* a multiplicity above U32_TABLE_P - 1; in recording and holding, if own count plus own holds and one more would pass that */
+    U32_TABLE_LIST_FULL = 6,  /* a new key and no unused place; in reading, more entries than places, or a list that has a key */
     U32_TABLE_SHORT = 7,      /* too few rows, output bytes or result places; a filled count above the rows; a check of no rows */
     U32_TABLE_UNREDUCED = 8,  /* a word that is U32_TABLE_P or more */
     U32_TABLE_FLAT = 9,       /* a denominator of (0, 0, 0), of a row with CopyFlag 1 or of a request; see u32_table_extend */
     U32_TABLE_TORN = 10,      /* stored bytes of neither of the two lengths, or more than 2,048 entries in them; an archive of a wrong length, or of more
                                * than 131,072 rows */
-    U32_TABLE_REPEAT = 11,    /* equal keys in stored bytes, or in a list to be written */
-    U32_TABLE_TALLY = 12,     /* the stored height is not the sum of the entries' heights */
+    U32_TABLE_REPEAT = 11,    /* equal keys in stored bytes, or among the counted keys of a list to be written */
+    U32_TABLE_TALLY = 12,     /* the stored height is not the sum of the stored entries' heights */
     U32_TABLE_ZERO_DIVISOR = 13, /* div_mod by 0, in u32_table_replay */
     U32_TABLE_CASCADE_FULL = 14, /* a new value and no unused cascade place, in u32_table_look_up */
-    U32_TABLE_OPEN_HOLD = 15, /* a hold at a used place, in u32_table_plan, u32_table_write and u32_table_fill */
-    U32_TABLE_NO_HOLD = 16,   /* a position that is not used, or has no hold, in u32_table_confirm and u32_table_drop */
+    U32_TABLE_OPEN_HOLD = 15, /* an own hold at a used place, in u32_table_plan, u32_table_write and u32_table_fill */
+    U32_TABLE_NO_HOLD = 16,   /* a position that is not used, or has no own hold, in u32_table_confirm and u32_table_drop */
     U32_TABLE_JOB_ABOVE = 17  /* a job of more rows than the setting, in u32_table_batches */
 };
 
@@ -149,35 +151,57 @@ enum {
     U32_TABLE_CASCADE_SUM_ANSWERS = 3
 };
 
-/* A list is `capacity` places, of which the first `used` have an entry each: three key words, one multiplicity and one number of holds a place. So
- * key_words has to be 3 * capacity, and `places` and hold_places have to be `capacity`; used is at most capacity, and capacity at most 2,048.
- * Anything else is U32_TABLE_SHAPE. A fresh list has `used` 0, and any words in its arrays.
+/* A list is `capacity` places, of which the first `used` have a key each: three key words a place. Two recorders share the places, the keys and `used`;
+ * what a call of one of them answers as `used` is what both pass from then on. Each recorder has two arrays of its own: one multiplicity and one number
+ * of holds a place. `multiplicities` and `holds` are those of the recorder that makes the call, its own. u32_table_record, u32_table_hold,
+ * u32_table_replay and u32_table_read, which may bring places into use, are lent the other recorder's two arrays as well: at exactly the places that
+ * come into use they set them to 0, and nothing else there is read or written. The other calls need the own arrays alone.
  *
- * Holds are recordings that are not confirmed yet: see u32_table_hold. A list that gets none keeps holds of 0 at its used places, since every append
+ * key_words has to be 3 * capacity; `places`, hold_places, other_places and other_hold_places have to be `capacity`; used is at most capacity, and
+ * capacity at most 2,048. Anything else is U32_TABLE_SHAPE. A fresh list has `used` 0, and any words in its five arrays.
+ *
+ * A caller with one recorder lends a second pair of arrays all the same. It may be any pair of the right length that does not overlap the other arrays,
+ * with any words in it, and need not be the same pair in each call; what a call leaves in it may then be ignored.
+ *
+ * A key is counted for a recorder if its multiplicity is not 0 there. u32_table_plan, u32_table_write and u32_table_fill take the counted keys of the
+ * used places, in list order. They leave out the others, which are not examined and have no rows and no bytes; of these only the holds are looked
+ * at: an own hold at any used place is U32_TABLE_OPEN_HOLD, and one of the other recorder never is.
+ *
+ * So neither recorder notices the other, but by U32_TABLE_LIST_FULL. From a fresh list on, let both record, replay, hold, confirm and drop, each confirm
+ * and drop at a position that an earlier call of its own recorder answered, and let no call of one recorder return U32_TABLE_LIST_FULL. Then what its
+ * calls return, its plan, its count of each key, and in as many rows and under the same challenges what u32_table_fill, u32_table_pad, u32_table_extend
+ * and u32_table_check answer, are those of its own calls alone on a fresh list of the same capacity. Positions and `used` may differ.
+ *
+ * Holds are recordings that are not confirmed yet: see u32_table_hold. A recorder that makes none has holds of 0 at the used places, since every append
  * sets those of its place. They are not in stored lists, and a list with an open hold cannot be written: what is held and not confirmed is lost with
  * the memory.
  *
  * An entry is admitted if its opcode is one of the six, both operands are below 2^32 (but the left one of pow), and the left one of log_2_floor is
- * not 0. The left operand of pow is any word and is taken modulo U32_TABLE_P; in stored bytes it is below it. So a key of pow counts as its
+ * not 0. The left operand of pow is any word and is taken modulo U32_TABLE_P; in stored bytes it is below it. So a key of pow is taken as its
  * reduced form wherever keys are equal or not, are filled, planned or written, also where the caller put a word of U32_TABLE_P or more among the
  * keys. */
 
 /* Records an entry: the first equal key's multiplicity gains one, and its words stay as they are; else the key is appended, reduced, with
- * multiplicity 1 and no hold.
+ * multiplicity 1 and no hold, and the other recorder has multiplicity 0 and no hold there.
  * Answers: the key's position, from 0; the places used afterwards, which is what to pass as `used` from then on.
- * Refusals, in this order: SHAPE; STRANGER; WIDE; BARE_LOG; then COUNT_FULL or LIST_FULL. COUNT_FULL looks at the first equal key's count plus holds. */
+ * Refusals, in this order: SHAPE (of the list, or of the other's arrays); STRANGER; WIDE; BARE_LOG; then COUNT_FULL or LIST_FULL. COUNT_FULL looks at the
+ * first equal key's own count plus own holds. */
 uint64_t u32_table_record(size_t capacity, size_t used, uint64_t *keys, size_t key_words, uint64_t *multiplicities, size_t places,
-                          uint64_t *holds, size_t hold_places, uint64_t opcode, uint64_t left_operand, uint64_t right_operand, uint64_t *answers,
+                          uint64_t *holds, size_t hold_places, uint64_t *other_multiplicities, size_t other_places, uint64_t *other_holds,
+                          size_t other_hold_places, uint64_t opcode, uint64_t left_operand, uint64_t right_operand, uint64_t *answers,
                           size_t answer_words);
 
 /* A recording in two parts: a hold, then u32_table_confirm or u32_table_drop at the position that it answers. Holds an entry: the first equal key
- * gains one hold, and its words and its multiplicity stay as they are; else the key is appended, reduced, with multiplicity 0 and one hold.
- * From a list with no entries on, the multiplicity of a key is the number of its accepted confirms and recordings, those of replays among them.
+ * gains one hold, and its words and its multiplicity stay as they are; else the key is appended, reduced, with multiplicity 0 and one hold, and the
+ * other recorder has multiplicity 0 and no hold there.
+ * From a fresh list on, the multiplicity of a key is the number of accepted confirms and recordings of it by the same recorder, those of replays among
+ * them.
  * Answers: the key's position, from 0; the places used afterwards, which is what to pass as `used` from then on.
- * Refusals, in this order: SHAPE; STRANGER; WIDE; BARE_LOG; then COUNT_FULL (count plus holds) or LIST_FULL. */
+ * Refusals, in this order: SHAPE (of the list, or of the other's arrays); STRANGER; WIDE; BARE_LOG; then COUNT_FULL (own count plus own holds) or
+ * LIST_FULL. */
 uint64_t u32_table_hold(size_t capacity, size_t used, uint64_t *keys, size_t key_words, uint64_t *multiplicities, size_t places, uint64_t *holds,
-                        size_t hold_places, uint64_t opcode, uint64_t left_operand, uint64_t right_operand, uint64_t *answers,
-                        size_t answer_words);
+                        size_t hold_places, uint64_t *other_multiplicities, size_t other_places, uint64_t *other_holds, size_t other_hold_places,
+                        uint64_t opcode, uint64_t left_operand, uint64_t right_operand, uint64_t *answers, size_t answer_words);
 
 /* One hold at `position` becomes one count: the multiplicity there gains one, the holds lose one. `used` stays.
  * It has no answers besides the number.
@@ -185,8 +209,8 @@ uint64_t u32_table_hold(size_t capacity, size_t used, uint64_t *keys, size_t key
 uint64_t u32_table_confirm(size_t capacity, size_t used, const uint64_t *keys, size_t key_words, uint64_t *multiplicities, size_t places,
                            uint64_t *holds, size_t hold_places, size_t position);
 
-/* One hold at `position` is no more: the holds there lose one. The key keeps its place, also with multiplicity 0: it is then filled, planned and
- * written as any other, and can be recorded and held again.
+/* One hold at `position` is no more: the holds there lose one. The key keeps its place, also with multiplicity 0: it is then left out where the list is
+ * filled, planned and written, and can be recorded and held again.
  * It has no answers besides the number.
  * Refusals, in this order: SHAPE; NO_HOLD (`position` is any number). */
 uint64_t u32_table_drop(size_t capacity, size_t used, const uint64_t *keys, size_t key_words, const uint64_t *multiplicities, size_t places,
@@ -202,12 +226,15 @@ uint64_t u32_table_drop(size_t capacity, size_t used, const uint64_t *keys, size
  *     merkle_step(_mem) of i  split(i, i div 2), for i below 2^32
  *
  * The second value of log_2_floor, pop_count, split and the Merkle steps may be any word. The first refused step ends the replay. It changes nothing:
- * the list is as the steps before it made it.
+ * the list is as the steps before it made it. Whether it ends so or not, the other recorder has multiplicity 0 and no hold at the places that came into
+ * use.
  * Answers, on a refusal too: the steps done; the places used afterwards, which is what to pass as `used` from then on.
- * Refusals, in this order: SHAPE (of the list, or trace_words is not whole steps), before all steps and with none done; then step by step STRANGER;
- * WIDE; ZERO_DIVISOR or BARE_LOG; then COUNT_FULL (count plus holds) or LIST_FULL. For div_mod a refusal of lt comes before one of split. */
+ * Refusals, in this order: SHAPE (of the list, of the other's arrays, or trace_words is not whole steps), before all steps and with none done; then step by
+ * step STRANGER; WIDE; ZERO_DIVISOR or BARE_LOG; then COUNT_FULL (own count plus own holds) or LIST_FULL. For div_mod a refusal of lt comes before one
+ * of split. */
 uint64_t u32_table_replay(size_t capacity, size_t used, uint64_t *keys, size_t key_words, uint64_t *multiplicities, size_t places,
-                          uint64_t *holds, size_t hold_places, const uint64_t *trace, size_t trace_words, uint64_t *answers, size_t answer_words);
+                          uint64_t *holds, size_t hold_places, uint64_t *other_multiplicities, size_t other_places, uint64_t *other_holds,
+                          size_t other_hold_places, const uint64_t *trace, size_t trace_words, uint64_t *answers, size_t answer_words);
 
 /* Compares two entries by opcode, then left operand, then right operand, whatever words they are, and as they are: two words of one base of pow
  * are not equal here.
@@ -216,18 +243,21 @@ uint64_t u32_table_replay(size_t capacity, size_t used, uint64_t *keys, size_t k
 uint64_t u32_table_compare(uint64_t opcode, uint64_t left_operand, uint64_t right_operand, uint64_t other_opcode,
                            uint64_t other_left_operand, uint64_t other_right_operand, uint64_t *answers, size_t answer_words);
 
-/* The rows that a list needs.
- * Answers: its height, the sum of its entries' heights; its padded height, the smallest power of two that is at least the height and at least
- * 256: all tables of one proof share it, and the byte lookup always has 256 rows. No entries: 0 and 256.
- * Refusals, in this order: SHAPE; OPEN_HOLD; then entry by entry STRANGER, WIDE, BARE_LOG, COUNT_FULL. */
+/* The rows that a recorder's counted keys need.
+ * Answers: the height, which is the sum of their heights; the padded height, the smallest power of two that is at least the height and at least
+ * 256: all tables of one proof share it, and the byte lookup always has 256 rows. No counted key: 0 and 256.
+ * Refusals, in this order: SHAPE; OPEN_HOLD; then counted key by counted key STRANGER, WIDE, BARE_LOG, COUNT_FULL. */
 uint64_t u32_table_plan(size_t capacity, size_t used, const uint64_t *keys, size_t key_words, const uint64_t *multiplicities,
                         size_t places, const uint64_t *holds, size_t hold_places, uint64_t *answers, size_t answer_words);
 
-/* Reads a stored list: its N entries replace the first N places, which have no hold then, and later places keep their words and holds. `used` is
- * how many places were used before; afterwards it is N. Open holds do not keep a list from being replaced.
+/* Reads a stored list onto a list that has no key: `used` above 0 is LIST_FULL, also where the stored list has no entries. Its N entries go to the first N
+ * places, with their multiplicities as the own ones; the own holds, and the other recorder's multiplicities and holds, become 0 there, and later places
+ * keep their words. Afterwards `used` is N. A stored multiplicity may be 0: such an entry is examined as the others, is in the stored height and takes a
+ * place, where it is not counted.
  *
  * byte_count tells the form: U32_TABLE_STORED_BYTES(N), as u32_table_write writes it, or the old length 8 + 21 N, with multiplicities of 4
- * bytes. Any other length is TORN. A list that was read from the old form is written in the new one.
+ * bytes. Any other length is TORN. A list that was read from the old form is written in the new one. One of the new form
+ * that has no multiplicity 0 is written again as the same bytes.
  *
  * Whoever stores lists must keep their length too. A list of the new length that is cut by exactly 4 N bytes has the old length and is accepted:
  * its multiplicities are then the first N halves, of 4 bytes, of those that were stored. No refusal tells: TALLY looks at the keys alone. For
@@ -237,23 +267,25 @@ uint64_t u32_table_plan(size_t capacity, size_t used, const uint64_t *keys, size
  * Each operand is taken as it stands: a left operand of pow that is U32_TABLE_P or more is WIDE, so a list has one stored form.
  *
  * Answers: N.
- * Refusals, in this order: SHAPE; TORN; LIST_FULL; then entry by entry STRANGER, WIDE, BARE_LOG, COUNT_FULL; REPEAT; TALLY. */
+ * Refusals, in this order: SHAPE (of the list, or of the other's arrays); TORN; LIST_FULL; then entry by entry STRANGER, WIDE, BARE_LOG, COUNT_FULL; REPEAT;
+ * TALLY. */
 uint64_t u32_table_read(const uint8_t *bytes, size_t byte_count, size_t capacity, size_t used, uint64_t *keys, size_t key_words,
-                        uint64_t *multiplicities, size_t places, uint64_t *holds, size_t hold_places, uint64_t *answers, size_t answer_words);
+                        uint64_t *multiplicities, size_t places, uint64_t *holds, size_t hold_places, uint64_t *other_multiplicities,
+                        size_t other_places, uint64_t *other_holds, size_t other_hold_places, uint64_t *answers, size_t answer_words);
 
-/* Writes a list as bytes from the start of `out`: 4 bytes number of entries, 4 bytes height, then for each entry opcode (1 byte), left
- * operand (8), reduced for pow, and right operand (8), then the multiplicities (8 each), all little-endian. Bytes of `out` past the end keep
- * their values. Read again, the keys are the reduced ones.
- * Answers: the number of bytes written, U32_TABLE_STORED_BYTES(used).
- * Refusals, in this order: SHAPE; OPEN_HOLD; then entry by entry STRANGER, WIDE, BARE_LOG, COUNT_FULL; REPEAT; SHORT. */
+/* Writes a recorder's counted keys, N of them, as bytes from the start of `out`: 4 bytes N, 4 bytes height, then for each counted key opcode (1 byte), left
+ * operand (8), reduced for pow, and right operand (8), then their multiplicities (8 each), all little-endian. Bytes of `out` past the end keep
+ * their values. Read again, the keys are the reduced ones, at the first N places.
+ * Answers: the number of bytes written, U32_TABLE_STORED_BYTES(N).
+ * Refusals, in this order: SHAPE; OPEN_HOLD; then counted key by counted key STRANGER, WIDE, BARE_LOG, COUNT_FULL; REPEAT (among counted keys); SHORT. */
 uint64_t u32_table_write(size_t capacity, size_t used, const uint64_t *keys, size_t key_words, const uint64_t *multiplicities,
                          size_t places, const uint64_t *holds, size_t hold_places, uint8_t *out, size_t byte_count, uint64_t *answers,
                          size_t answer_words);
 
-/* Fills a table with the sections of the list's entries, in list order. `table` has ten words a row; rows past the height keep their words.
- * Answers: the height.
- * Refusals, in this order: SHAPE (of the list, or table_words is not whole rows or over 131,072 rows); OPEN_HOLD; then entry by entry STRANGER,
- * WIDE, BARE_LOG, COUNT_FULL; SHORT (fewer rows than the height). */
+/* Fills a table with the sections of a recorder's counted keys, in list order. `table` has ten words a row; rows past the height keep their words.
+ * Answers: the height, which is that of u32_table_plan.
+ * Refusals, in this order: SHAPE (of the list, or table_words is not whole rows or over 131,072 rows); OPEN_HOLD; then counted key by counted key
+ * STRANGER, WIDE, BARE_LOG, COUNT_FULL; SHORT (fewer rows than the height). */
 uint64_t u32_table_fill(size_t capacity, size_t used, const uint64_t *keys, size_t key_words, const uint64_t *multiplicities,
                         size_t places, const uint64_t *holds, size_t hold_places, uint64_t *table, size_t table_words, uint64_t *answers,
                         size_t answer_words);
@@ -295,9 +327,10 @@ uint64_t u32_table_check(const uint64_t *table, size_t table_words, const uint64
  *     pop_count               the one-bits of the left operand
  *     split                   0
  *
- * Where all requests are recorded onto a list with no entries, at once or by hold and confirm, none is refused, no hold is open at the end and no
- * denominator of a key at a used place is (0, 0, 0), this is the last sum that u32_table_fill, u32_table_pad and u32_table_extend then make under the same
- * challenges, with rows enough; and none of them refuses. Keys of dropped holds alone are at used places too.
+ * Where a recorder records all requests onto a list that was fresh, at once or by hold and confirm, and nothing else is accepted of it but holds that it drops,
+ * if no hold of it is open at the end and no denominator of a request is (0, 0, 0), this is the last sum that u32_table_fill, u32_table_pad and
+ * u32_table_extend then make of its own arrays under the same challenges, with rows enough; and none of them refuses. What the other recorder does in
+ * between, and the keys of dropped holds, do not matter.
  * Answers: the three words of the sum, zero for no requests.
  * Refusals, in this order: SHAPE (request_words is not whole requests, or challenge_words is not 15); UNREDUCED (challenges); then request by request
  * STRANGER, WIDE, BARE_LOG, FLAT. */

@@ -4,8 +4,9 @@
     tools/filled_tables.py ORACLE > tests/vectors/filled-tables.jsonl
 
 ORACLE is the built program of oracle/ (oracle/README.md). Each line is a call in the form of the stored vectors. Tables hold other words
-before the call; each list is filled into as many rows as its height, into one fewer, which is refused, and into more. A run is fill, pad,
-extend and check in a row; some are refused by fill or by extend, and what the calls before have written stays.
+before the call; each list is filled into as many rows as its height, into one fewer, which is refused, and into more. Places whose multiplicity is 0
+get no section and are not examined: the original is not given them. A run is fill, pad, extend and check in a row; some are refused by fill or by
+extend, and what the calls before have written stays.
 """
 import json
 import sys
@@ -38,8 +39,13 @@ def a_list(entries):
     }
 
 
+def rows_of(oracle, entries):
+    """The original's rows of the counted entries."""
+    return ask(oracle, "fill", [w for e in entries if e[3] for w in e])
+
+
 def fills(oracle, entries):
-    rows = ask(oracle, "fill", [w for e in entries for w in e])
+    rows = rows_of(oracle, entries)
     words = [w for r in rows for w in r]
     for more in (-1, 0, 2):
         height = len(rows) + more
@@ -73,7 +79,7 @@ def run_call(entries, height, challenges, answer, table, aux):
 
 
 def runs(oracle, entries, padding):
-    rows = ask(oracle, "fill", [w for e in entries for w in e])
+    rows = rows_of(oracle, entries)
     height = len(rows) + padding
     table = [w for r in rows for w in r] + [0] * (10 * padding)
     padded = ask(oracle, "pad", [len(rows)] + table)
@@ -81,8 +87,10 @@ def runs(oracle, entries, padding):
     sums = [w for s in ask(oracle, "extend", CHALLENGES + words) for w in s]
     run_call(entries, height, CHALLENGES, ["ok", "zero"], words, sums)
     run_call(entries, height, CHALLENGES[:14] + [P], ["refused", "8"], words, old_words(3 * height))
-    run_call(entries, height, [0] * 15, ["refused", "9"], words, old_words(3 * height))
-    if rows:
+    if not rows:  # no denominator is made
+        run_call(entries, height, [0] * 15, ["ok", "zero"], words, [0] * 3 * height)
+    else:
+        run_call(entries, height, [0] * 15, ["refused", "9"], words, old_words(3 * height))
         run_call(entries, len(rows) - 1, CHALLENGES, ["refused", "7"], old_words(10 * len(rows) - 10), old_words(3 * len(rows) - 3))
 
 
@@ -90,6 +98,7 @@ ALL_SIX = [(SPLIT, 5, 6, 1), (LT, 2, 3, 2), (AND, 12, 10, 3), (LOG, 9, 0, 4), (P
 
 LISTS = [
     [(LT, 0, 0, 1)],
+    [(LT, 3, 3, 1)],
     [(LT, 3, 3, 0)],
     [(LT, TOP, 0, 2)],
     [(LT, 2**31, TOP, TOP)],
@@ -110,7 +119,9 @@ LISTS = [
     [(SPLIT, 0, 0, 4)],
     [(SPLIT, 1, 2**32 - 2, 4)],
     ALL_SIX,
-    [(LT, 1, 2, 1), (LT, 1, 2, 5), (POW, 7, 1, 0), (LT, 0, 0, 1)],
+    [(LT, 1, 2, 1), (LT, 1, 2, 5), (POW, 7, 1, 3), (LT, 0, 0, 1)],
+    [(LT, 1, 2, 0), (LT, 1, 2, 5), (POW, 7, 1, 0), (LT, 0, 0, 1), (AND, 3, 1, 0)],
+    [(5, 2**64 - 1, 0, 0), (AND, 1, 1, 2), (AND, 1, 1, 0), (LOG, 0, 0, 0), (LT, 2**32, 0, 0)],
 ]
 
 
@@ -122,10 +133,11 @@ def main(oracle):
             extends(oracle, rows)
     pads(oracle, [], 2)
     for entries in LISTS:
-        if len(ask(oracle, "fill", [w for e in entries for w in e])) < 6:
+        if 0 < len(rows_of(oracle, entries)) < 6:
             runs(oracle, entries, 0)
     runs(oracle, ALL_SIX, 3)
     runs(oracle, LISTS[0], 2)
+    runs(oracle, [(LT, 3, 3, 0)], 2)
 
 
 if __name__ == "__main__":

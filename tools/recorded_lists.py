@@ -6,7 +6,7 @@
 ORACLE is the built program of oracle/ (oracle/README.md). Each line is a call in the form of the stored vectors. Heights are those of one
 entry at every opcode's edges and of lists; a padded height is the smallest power of two that is not less than it and 256, as the original
 answers for a trace that has these entries alone (oracle/tests/suite/differences.rs). Recordings go onto lists with unused places, which hold other words and keep them; the position is where the key
-stands in the original's list afterwards.
+stands in the original's list afterwards. A plan leaves out places whose multiplicity is 0, and does not examine them: the original is not given them.
 """
 import itertools
 import json
@@ -77,7 +77,9 @@ class Oracle:
         return [tuple(int(w) for w in line.split()) for line in lines[:-1]]
 
     def height(self, entries):
-        lines = self.ask("record", len(entries), *(w for e in entries for w in e))
+        """Of the counted entries."""
+        counted = [e for e in entries if e[3]]
+        lines = self.ask("record", len(counted), *(w for e in counted for w in e))
         return int(lines[-1].split()[1])
 
     def order(self, left, right):
@@ -91,7 +93,9 @@ def heights(oracle):
                 continue
             entries = [(opcode, lhs, EDGES[(7 * i + opcode) % len(EDGES)], TOP)]
             plan(oracle, entries)
+    plan(oracle, [(POW, P - 1, TOP, 1)])
     plan(oracle, [(POW, P - 1, TOP, 0)])
+    plan(oracle, [(AND, 3, 1, 0), (LT, 2, 3, 2), (5, 2**64 - 1, 0, 0), (POP, TOP, 0, 0), (LT, 2, 3, 0), (POW, 2, 64, 1)])
     plan(oracle, [(AND, 3, 1, TOP + 1), (LT, 2, 3, P - 1)])
     for n in (1, 2, 5, len(KEYS)):
         plan(oracle, [key + (n,) for key in KEYS[:n]])

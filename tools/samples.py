@@ -118,14 +118,14 @@ def last_sum(challenges, rows):
 
 
 def text(challenges, entries):
-    """What u32list prints for a list of admitted entries that is stored whole."""
+    """What u32list prints for a list of admitted entries that is stored whole. Keys whose multiplicity is 0 are among its entries, and have no rows."""
     if len(entries) > 2048:
         return "refused 10\n"
     if any(opcode == POW and lhs >= P for opcode, lhs, _ in entries):
         return "refused 3\n"
     if max(entries.values(), default=0) >= P:
         return "refused 5\n"
-    rows, table = padded_table(entries)
+    rows, table = padded_table({key: count for key, count in entries.items() if count})
     if len(table) > 512:
         return "refused 7\n"
     lines = [f"entries {len(entries)} rows {rows} padded {len(table)}"]
@@ -176,6 +176,7 @@ def different(count):
 
 def samples():
     yield "example", PLAIN, {(AND, 3, 1): 2}
+    yield "count-of-zero", PLAIN, {(AND, 1, 1): 0, (AND, 3, 1): 2}
     yield "count-past-four-bytes", PLAIN, {(AND, 3, 1): 2**32 + 2}
     yield "count-at-the-limit", PLAIN, {(AND, 3, 1): P - 1}
     yield "count-above-it", PLAIN, {(AND, 3, 1): P}

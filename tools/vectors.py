@@ -13,8 +13,10 @@ crates/vectors_text/stdin is packed by tests/pack-cases from cases that came fro
 same form are read after it: request-NN.jsonl has calls as change request NN has them, and the calls of CALLS.jsonl that a request answers
 otherwise are left out; the others in tests/vectors have the original Rust's answers (tools/filled_tables.py, tools/named_tables.py and
 tools/recorded_lists.py make them). request-07.jsonl has those calls of the request's file that take at most 6,000 characters, and the shortest one of
-each call and answer that would have none. request-01.jsonl, replays, request-02.jsonl, client's sums, request-03.jsonl, lookups, request-10.jsonl, archives, and request-12.jsonl, batches, are run through the C
-functions alone (tests/ffi/vectors.py). What the vectors leave out, and edges, are added here; their answers are computed by the few lines of
+each call and answer that would have none; request-11.jsonl has those that take at most 800, and the shortest of each in the same way. From request-06.jsonl and
+request-07.jsonl the calls that request 11 answers otherwise are taken out, 18 and 20. request-01.jsonl, replays, request-02.jsonl, client's sums,
+request-03.jsonl, lookups, request-06.jsonl, holds, request-10.jsonl, archives, request-11.jsonl, two recorders, and request-12.jsonl, batches, are run
+through the C functions alone (tests/ffi/vectors.py). What the vectors leave out, and edges, are added here; their answers are computed by the few lines of
 arithmetic below, which share nothing with the library. A number file is decimal numbers; the first of each line is the kind of the line.
 """
 import json
@@ -200,10 +202,10 @@ def reading(data, capacity, due):
     line(4, [capacity, 0], array([9] * 3 * capacity), array([9] * capacity), array(data), answer, *after)
 
 
-# Writing to so many bytes, which hold 9: all of the list, or the number of the refusal
+# Writing to so many bytes, which hold 9: the counted entries of the list, or the number of the refusal
 def writing(entries, room, refusal=0):
     keys = [word for key, _ in entries for word in key]
-    data = [] if refusal else stored(entries)
+    data = [] if refusal else stored([(key, count) for key, count in entries if count])
     after = data + [9] * (room - len(data))
     line(5, [len(entries)] * 2, array(keys), array([count for _, count in entries]), array([9] * room), [refusal, len(data)], after)
 
@@ -243,7 +245,7 @@ def stored_edges():
     reading(stored([(fine, 2**32 + 2)])[:29], 1, [(fine, 2)])
     reading(stored([(fine, 7 * 2**32 + 2), (other, 5)])[:50], 2, [(fine, 2), (other, 7)])
     # writing
-    for count in (0, 2**32 - 1, 2**32, P - 1):
+    for count in (1, 2**32 - 1, 2**32, P - 1):
         for room in (33, 40):
             writing([(fine, count)], room)
         for room in (29, 32):
@@ -303,7 +305,7 @@ def list_edges():
     recorded(1, 2, 1, keys, mults, [14, 3, 4], keys, [7, 1], 2)
     # document 01's heights, whose padded height is the least; then padded heights around powers of two: sections of 33 rows and a shorter one
     for entry, height in [([14, 0, 0], 1), ([14, 1, 0], 2), ([6, 2**32 - 1, 0], 33), ([30, P - 1, 0], 1), ([30, 5, 7], 4)]:
-        planned(1, 1, entry, [0], [0, height, 256])
+        planned(1, 1, entry, [1], [0, height, 256])
     planned(0, 0, [], [], [0, 0, 256])
     for count in (2**32 - 1, 2**32, P - 1):
         planned(1, 1, [6, 1, 2], [count], [0, 3, 256])
@@ -340,7 +342,7 @@ def base_edges():
     refused_recording(3, 1, 1, raw, [1], [30, P, 2**32])
     refused_recording(3, 1, 1, raw, [1], [12, P, 0])
     planned(2, 2, raw + reduced, [7, 1], [0, 6, 256])
-    planned(1, 1, [30, 2**64 - 1, 2**32 - 1], [0], [0, 33, 256])
+    planned(1, 1, [30, 2**64 - 1, 2**32 - 1], [1], [0, 33, 256])
     planned(2, 2, raw + [5, 0, 0], [1, 1], [2, 0, 0])
     planned(1, 1, [30, P, 2**32], [1], [3, 0, 0])
     # written reduced; in stored bytes 3, entry by entry
@@ -361,12 +363,76 @@ def base_edges():
         reading(stored(entries, 4) if max(count for _, count in entries) < P else stored(entries), 2, due)
 
 
+# Keys whose multiplicity is 0 are left out of plans and of written lists, and not examined; reading judges them, and gives 6 where a place is used
+def counted_edges():
+    fine, other = [14, 3, 1], [6, 2, 3]
+    left_out = [[5, 2**64 - 1, 0], [14, 2**32, 0], [30, 5, 2**32], [12, 0, 3], fine, other, [30, P + 5, 2]]
+    for key in left_out:
+        for entries in ([(key, 0)], [(key, 0), (fine, 2)], [(fine, 2), (key, 0)], [(key, 0), (key, 0)], [(other, 1), (key, 0), (fine, P - 1), (key, 0)]):
+            keys, counts = [w for k, _ in entries for w in k], [count for _, count in entries]
+            n, counted = len(entries), [k for k, count in entries if count]
+            planned(n, n, keys, counts, [0, sum((max(k[1:])).bit_length() + 1 for k in counted), 256])
+            length = 8 + 25 * len(counted)
+            writing(entries, length)
+            writing(entries, length + 3)
+            writing(entries, length - 1, 7)
+        # a counted key is examined, before and after a left-out one
+        for count in (P, 2**64 - 1):
+            for entries in ([(key, 0), (fine, count)], [(fine, count), (key, 0)]):
+                planned(2, 2, [w for k, _ in entries for w in k], [c for _, c in entries], [5, 0, 0])
+                writing(entries, 58, 5)
+        for bad, number in (([5, 0, 0], 2), ([6, 0, 2**32], 3), ([12, 0, 3], 4)):
+            planned(2, 2, key + bad, [0, 1], [number, 0, 0])
+            planned(2, 2, bad + key, [1, 0], [number, 0, 0])
+            writing([(key, 0), (bad, 1)], 58, number)
+            writing([(bad, 1), (key, 0)], 58, number)
+    # equal keys: two counted ones, or one
+    for first, second in ((0, 1), (1, 0), (0, 0)):
+        writing([(fine, first), (fine, second)], 58)
+        writing([(fine, first), (other, 3), (fine, second)], 83)
+    writing([(fine, 1), (other, 0), (fine, 1)], 83, 11)
+    line(5, [2, 2], array([30, P + 5, 2, 30, 5, 2]), array([0, 4]), array([9] * 33), [0, 33], stored([([30, 5, 2], 4)]))
+    line(5, [2, 2], array([30, P + 5, 2, 30, 5, 2]), array([4, 0]), array([9] * 33), [0, 33], stored([([30, 5, 2], 4)]))
+    # read: a key of multiplicity 0 takes a place, and is summed and judged
+    data = stored([([14, 1, 1], 0), (fine, 2)])
+    reading(data, 3, [([14, 1, 1], 0), (fine, 2)])
+    reading(data[:4] + [3] + data[5:], 3, 12)
+    for entries, due in [
+        ([(fine, 0)], [(fine, 0)]),
+        ([([5, 0, 0], 0)], 2),
+        ([([14, 2**32, 0], 0)], 3),
+        ([([12, 0, 0], 0)], 4),
+        ([(fine, 0), (fine, 2)], 11),
+        ([(fine, 0), (fine, 0)], 11),
+    ]:
+        reading(stored(entries), 2, due)
+        reading(stored(entries, 4), 2, due)
+    # read onto used places: 6, after 1 and 10 and before 2
+    for used, counts in ((1, [7, 9]), (1, [0, 9]), (2, [7, 8])):
+        keys = fine + other
+        for data, number in [
+            ([0] * 8, 6),
+            (stored([(fine, 2)]), 6),
+            (stored([(fine, 2)], 4), 6),
+            (stored([([5, 0, 0], 2)]), 6),
+            (stored([(fine, P)]), 6),
+            (stored([(fine, 2), (fine, 2)]), 6),
+            (stored([(fine, 2)])[:4] + [9] + stored([(fine, 2)])[5:], 6),
+            (stored([(fine, 2), (other, 1), ([28, 1, 0], 1)]), 6),
+            ([0] * 7, 10),
+            (stored([(fine, 2)])[:-1], 10),
+        ]:
+            line(4, [2, used], array(keys), array(counts), array(data), [number, 0], [2, used], keys, counts)
+        line(4, [2, used], array(keys), array(counts + [0]), array([0] * 8), [1, 0], [2, used], keys, counts + [0])
+
+
 def lists(calls):
     for call in calls:
         list_line(call)
     list_edges()
     stored_edges()
     base_edges()
+    counted_edges()
 
 
 # ---- tables
@@ -418,6 +484,41 @@ def tables(calls):
 
 def changed(call):
     """Whether a change request answers a call of document 01 otherwise."""
+    return changed_to_10(call) or changed_by_11(call)
+
+
+def changed_by_11(call):
+    """Places whose multiplicity is 0 are left out and not examined; reading onto used places gives 6."""
+    which, numbers, (kind, value) = call["call"], call["in"], call["answer"]
+    number = int(value) if kind == "refused" else 0
+    if which == "read":
+        return int(numbers["used"]) > 0 and number not in (1, 6, 10)
+    if which not in ("plan", "fill", "write") or number == 1:
+        return False
+    keys, counts = ints(numbers["keys"]), ints(numbers["mults"])
+    entries = [(keys[3 * i : 3 * i + 3], counts[i]) for i in range(int(numbers["used"]))]
+    counted = [entry for entry in entries if entry[1]]
+    if number in (2, 3, 4, 5):
+        return next(filter(None, map(reason, counted)), 0) != number
+    if number == 11:
+        return len({tuple(key) for key, _ in counted}) == len(counted)
+    return len(counted) < len(entries)
+
+
+def reason(entry):
+    """The first of the reasons 2 to 5 for an entry, 0 where there is none."""
+    (opcode, lhs, rhs), count = entry
+    if opcode not in (4, 6, 12, 14, 28, 30):
+        return 2
+    if rhs >= 2**32 or (opcode != 30 and lhs >= 2**32):
+        return 3
+    if opcode == 12 and lhs == 0:
+        return 4
+    return 5 if count >= P else 0
+
+
+def changed_to_10(call):
+    """Whether one of the requests 1 to 10 does."""
     which, numbers, (kind, value) = call["call"], call["in"], call["answer"]
     # request 4: a padded height is at least 256
     if which == "plan" and kind == "ok":

@@ -162,7 +162,7 @@ struct Inputs {
 }
 
 impl Inputs {
-    /// Mixed opcodes, operands of 32 bits, bases of pow below p.
+    /// Mixed opcodes, operands of 32 bits, bases of pow below p; every key counts.
     fn new() -> Self {
         let mut random = Random(7);
         let keys = (0..MOST_ENTRIES).map(|i| match oracle::OPCODES[i % 6] {
@@ -170,7 +170,11 @@ impl Inputs {
             opcode => [opcode, random.word() >> 32 | 1, random.word() >> 32],
         });
         let keys = keys.collect();
-        Self { keys, multiplicities: (0..MOST_ENTRIES).map(|_| random.below(1000)).collect(), challenges: random.challenges() }
+        Self {
+            keys,
+            multiplicities: (0..MOST_ENTRIES).map(|_| random.below(1000).max(1)).collect(),
+            challenges: random.challenges(),
+        }
     }
 
     fn list(&self, n: usize) -> List {
@@ -365,8 +369,10 @@ impl Inputs {
         println!("write | {:.3} | |\nread | {:.3} | |\nplan | {:.4} | |", write * 1e3, read * 1e3, plan * 1e3);
 
         self.record("record, all entries, a hash map", &self.keys, runs);
+        // A loop of six instructions, gone through two million times: it takes twice as long where the linker puts it across a line of 64 bytes.
         let one_lhs: Vec<_> = (0..n as u64).map(|rhs| [30, 2, rhs]).collect();
         self.record("record, as many keys with one LHS, a hash map", &one_lhs, runs);
+        self.second_recorder(runs);
         self.two_parts(runs);
         self.replay(runs);
         self.client(runs);
@@ -425,6 +431,27 @@ impl Inputs {
             ],
         );
         line(name, ours, theirs, EARLIER.map(|_| earlier));
+    }
+
+    /// All entries again, by the second recorder: each key is known, and counts for it. In the original's hash map they are recorded again.
+    fn second_recorder(&self, runs: usize) {
+        let n = self.keys.len();
+        let mut list = List::empty(n);
+        assert_eq!(n, self.keys.iter().fold(0, |used, &key| OURS.record(&mut list, used, key)));
+        let mut list = list.of_other();
+        let mut trace = reach::empty_trace();
+        let mut record_all = || {
+            for &[opcode, lhs, rhs] in &self.keys {
+                reach::record(&mut trace, U32TableEntry::new(opcode.try_into().unwrap(), B::new(lhs), B::new(rhs)));
+            }
+        };
+        record_all();
+        let [ours, theirs] = best(
+            runs,
+            [&mut || self.keys.iter().for_each(|&key| assert_eq!(n, OURS.record(&mut list, n, key))), &mut record_all],
+        );
+        assert!(list.multiplicities == vec![runs as u64; n] && list.other_multiplicities == vec![1; n]);
+        line("record, all entries by the second recorder, known keys, a hash map", ours, theirs, None);
     }
 
     /// All entries in two parts, held and then confirmed, against their recordings.

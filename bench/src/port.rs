@@ -20,9 +20,9 @@ mod earlier {
     }
     pub use declared::*;
 
-    /// Of a library whose lists have no holds.
-    #[cfg(without_holds)]
-    #[allow(clippy::too_many_arguments)]
+    /// Of a library whose lists have one recorder, or no holds either: record has fewer arguments there.
+    #[cfg(any(one_recorder, without_holds))]
+    #[allow(clippy::too_many_arguments, unused_variables)]
     pub unsafe fn u32_table_record(
         capacity: usize,
         used: usize,
@@ -30,8 +30,12 @@ mod earlier {
         key_words: usize,
         multiplicities: *mut u64,
         places: usize,
-        _holds: *mut u64,
-        _hold_places: usize,
+        holds: *mut u64,
+        hold_places: usize,
+        other_multiplicities: *mut u64,
+        other_places: usize,
+        other_holds: *mut u64,
+        other_hold_places: usize,
         opcode: u64,
         left_operand: u64,
         right_operand: u64,
@@ -48,6 +52,8 @@ mod earlier {
                 key_words: usize,
                 multiplicities: *mut u64,
                 places: usize,
+                #[cfg(one_recorder)] holds: *mut u64,
+                #[cfg(one_recorder)] hold_places: usize,
                 opcode: u64,
                 left_operand: u64,
                 right_operand: u64,
@@ -55,9 +61,26 @@ mod earlier {
                 answer_words: usize,
             ) -> u64;
         }
+        let [a, b, c] = [opcode, left_operand, right_operand];
         unsafe {
-            let key = [opcode, left_operand, right_operand];
-            record(capacity, used, keys, key_words, multiplicities, places, key[0], key[1], key[2], answers, answer_words)
+            #[cfg(one_recorder)]
+            return record(
+                capacity,
+                used,
+                keys,
+                key_words,
+                multiplicities,
+                places,
+                holds,
+                hold_places,
+                a,
+                b,
+                c,
+                answers,
+                answer_words,
+            );
+            #[cfg(without_holds)]
+            return record(capacity, used, keys, key_words, multiplicities, places, a, b, c, answers, answer_words);
         }
     }
 }
@@ -100,6 +123,10 @@ macro_rules! library {
                         list.multiplicities.as_mut_ptr(),
                         capacity,
                         list.holds.as_mut_ptr(),
+                        capacity,
+                        list.other_multiplicities.as_mut_ptr(),
+                        capacity,
+                        list.other_holds.as_mut_ptr(),
                         capacity,
                         key[0],
                         key[1],
@@ -152,18 +179,32 @@ pub const EARLIER: Option<Library> = Some(library!(earlier));
 #[cfg(not(earlier))]
 pub const EARLIER: Option<Library> = None;
 
+/// The keys, the arrays of the recorder who makes the calls, and those of the other one.
 #[derive(Clone)]
 pub struct List {
     pub keys: Vec<u64>,
     pub multiplicities: Vec<u64>,
     pub holds: Vec<u64>,
+    pub other_multiplicities: Vec<u64>,
+    pub other_holds: Vec<u64>,
 }
 
 impl List {
-    /// A list with no hold.
+    /// A list with no hold, and nothing of the other recorder.
     pub fn new(keys: Vec<u64>, multiplicities: Vec<u64>) -> Self {
-        let holds = vec![0; multiplicities.len()];
-        Self { keys, multiplicities, holds }
+        let [holds, other_multiplicities, other_holds] = [(); 3].map(|()| vec![0; multiplicities.len()]);
+        Self { keys, multiplicities, holds, other_multiplicities, other_holds }
+    }
+
+    /// The list of the other recorder.
+    pub fn of_other(self) -> Self {
+        Self {
+            multiplicities: self.other_multiplicities,
+            holds: self.other_holds,
+            other_multiplicities: self.multiplicities,
+            other_holds: self.holds,
+            ..self
+        }
     }
 
     pub fn empty(capacity: usize) -> Self {
@@ -191,6 +232,10 @@ pub fn hold(list: &mut List, used: usize, key: [u64; 3]) -> usize {
             list.multiplicities.as_mut_ptr(),
             capacity,
             list.holds.as_mut_ptr(),
+            capacity,
+            list.other_multiplicities.as_mut_ptr(),
+            capacity,
+            list.other_holds.as_mut_ptr(),
             capacity,
             key[0],
             key[1],
@@ -232,6 +277,10 @@ pub fn replay(list: &mut List, used: usize, trace: &[u64]) -> [usize; 2] {
             list.multiplicities.as_mut_ptr(),
             capacity,
             list.holds.as_mut_ptr(),
+            capacity,
+            list.other_multiplicities.as_mut_ptr(),
+            capacity,
+            list.other_holds.as_mut_ptr(),
             capacity,
             trace.as_ptr(),
             trace.len(),
@@ -275,6 +324,10 @@ pub fn read(bytes: &[u8], list: &mut List) -> usize {
             list.multiplicities.as_mut_ptr(),
             capacity,
             list.holds.as_mut_ptr(),
+            capacity,
+            list.other_multiplicities.as_mut_ptr(),
+            capacity,
+            list.other_holds.as_mut_ptr(),
             capacity,
             answers.as_mut_ptr(),
             1,

@@ -53,6 +53,11 @@ pub fn entry(opcode: u64, lhs: u64, rhs: u64, multiplicity: u64) -> Entry {
     Entry { key: [opcode, lhs, rhs], multiplicity }
 }
 
+/// The entries whose multiplicity is not 0. A recorder's fill, plan and stored list leave out the others: to the original, they are not recorded.
+pub fn counted(list: &[Entry]) -> Vec<Entry> {
+    list.iter().copied().filter(|entry| entry.multiplicity != 0).collect()
+}
+
 /// The answer, or the message with which the original panics.
 pub fn caught<T>(call: impl FnOnce() -> T) -> Result<T, String> {
     catch_unwind(AssertUnwindSafe(call)).map_err(|panic| match panic.downcast::<String>() {

@@ -26,9 +26,9 @@ pub fn read_input(bytes: &[u8]) -> Option<(Challenges, Vec<Entry>)> {
     Some((challenges, (0..n).map(entry_at).collect::<Option<_>>()?))
 }
 
-/// The printed session: list, table up to the padded height, last sum, verdict.
+/// The printed session: list, table of its counted entries up to the padded height, last sum, verdict.
 pub fn session(list: &[Entry], challenges: &Challenges) -> String {
-    let mut rows = filled(list);
+    let mut rows = filled(&counted(list));
     let height = rows.len();
     let padded = height.next_power_of_two().max(256);
     rows.resize(padded, [0; 10]);

@@ -18,10 +18,12 @@ static void expect(const char *what, uint64_t got, uint64_t wanted) {
 }
 
 /* ---- arrays with a copy, so that it can be seen what a call touched */
-static uint64_t keys[3 * PLACES], multiplicities[PLACES], holds[PLACES], table[10 * ROWS], aux[3 * ROWS], challenges[15], answers[WORDS];
+static uint64_t keys[3 * PLACES], multiplicities[PLACES], holds[PLACES], other_multiplicities[PLACES], other_holds[PLACES];
+static uint64_t table[10 * ROWS], aux[3 * ROWS], challenges[15], answers[WORDS];
 static uint8_t bytes[256];
 static struct {
-    uint64_t keys[3 * PLACES], multiplicities[PLACES], holds[PLACES], table[10 * ROWS], aux[3 * ROWS], challenges[15];
+    uint64_t keys[3 * PLACES], multiplicities[PLACES], holds[PLACES], other_multiplicities[PLACES], other_holds[PLACES];
+    uint64_t table[10 * ROWS], aux[3 * ROWS], challenges[15];
     uint8_t bytes[256];
 } copy;
 
@@ -29,6 +31,8 @@ static void keep(void) {
     memcpy(copy.keys, keys, sizeof keys);
     memcpy(copy.multiplicities, multiplicities, sizeof multiplicities);
     memcpy(copy.holds, holds, sizeof holds);
+    memcpy(copy.other_multiplicities, other_multiplicities, sizeof other_multiplicities);
+    memcpy(copy.other_holds, other_holds, sizeof other_holds);
     memcpy(copy.table, table, sizeof table);
     memcpy(copy.aux, aux, sizeof aux);
     memcpy(copy.challenges, challenges, sizeof challenges);
@@ -39,6 +43,8 @@ static void keep(void) {
 static void lists_kept(const char *what) {
     expect(what, (uint64_t)(memcmp(copy.keys, keys, sizeof keys) | memcmp(copy.multiplicities, multiplicities, sizeof multiplicities)), 0);
     expect(what, (uint64_t)memcmp(copy.holds, holds, sizeof holds), 0);
+    expect(what, (uint64_t)memcmp(copy.other_multiplicities, other_multiplicities, sizeof other_multiplicities), 0);
+    expect(what, (uint64_t)memcmp(copy.other_holds, other_holds, sizeof other_holds), 0);
 }
 
 static void tables_kept(const char *what) {
@@ -64,32 +70,36 @@ static void refused(const char *what, uint64_t got, uint64_t wanted) {
 #define STOPPED(call, wanted, ...) (keep(), expect(#call, call, wanted), answered(#call, 2, (uint64_t[]){__VA_ARGS__}))
 #define DONE(call, n, ...) (keep(), expect(#call, call, 0), answered(#call, n, (uint64_t[]){__VA_ARGS__}))
 
+/* the arrays of the recorder that these make calls for, and of the other */
+#define OWN multiplicities, PLACES, holds, PLACES
+#define OTHER other_multiplicities, PLACES, other_holds, PLACES
+
 static uint64_t record(size_t used, uint64_t opcode, uint64_t lhs, uint64_t rhs) {
-    return u32_table_record(PLACES, used, keys, 3 * PLACES, multiplicities, PLACES, holds, PLACES, opcode, lhs, rhs, answers, WORDS);
+    return u32_table_record(PLACES, used, keys, 3 * PLACES, OWN, OTHER, opcode, lhs, rhs, answers, WORDS);
 }
 static uint64_t hold(size_t used, uint64_t opcode, uint64_t lhs, uint64_t rhs) {
-    return u32_table_hold(PLACES, used, keys, 3 * PLACES, multiplicities, PLACES, holds, PLACES, opcode, lhs, rhs, answers, WORDS);
+    return u32_table_hold(PLACES, used, keys, 3 * PLACES, OWN, OTHER, opcode, lhs, rhs, answers, WORDS);
 }
 static uint64_t confirm(size_t used, size_t position) {
-    return u32_table_confirm(PLACES, used, keys, 3 * PLACES, multiplicities, PLACES, holds, PLACES, position);
+    return u32_table_confirm(PLACES, used, keys, 3 * PLACES, OWN, position);
 }
 static uint64_t drop(size_t used, size_t position) {
-    return u32_table_drop(PLACES, used, keys, 3 * PLACES, multiplicities, PLACES, holds, PLACES, position);
+    return u32_table_drop(PLACES, used, keys, 3 * PLACES, OWN, position);
 }
 static uint64_t replay(size_t used, const uint64_t *trace, size_t words) {
-    return u32_table_replay(PLACES, used, keys, 3 * PLACES, multiplicities, PLACES, holds, PLACES, trace, words, answers, WORDS);
+    return u32_table_replay(PLACES, used, keys, 3 * PLACES, OWN, OTHER, trace, words, answers, WORDS);
 }
 static uint64_t plan(size_t used) {
-    return u32_table_plan(PLACES, used, keys, 3 * PLACES, multiplicities, PLACES, holds, PLACES, answers, WORDS);
+    return u32_table_plan(PLACES, used, keys, 3 * PLACES, OWN, answers, WORDS);
 }
 static uint64_t read(size_t n) {
-    return u32_table_read(bytes, n, PLACES, 0, keys, 3 * PLACES, multiplicities, PLACES, holds, PLACES, answers, WORDS);
+    return u32_table_read(bytes, n, PLACES, 0, keys, 3 * PLACES, OWN, OTHER, answers, WORDS);
 }
 static uint64_t write(size_t used, size_t room) {
-    return u32_table_write(PLACES, used, keys, 3 * PLACES, multiplicities, PLACES, holds, PLACES, bytes, room, answers, WORDS);
+    return u32_table_write(PLACES, used, keys, 3 * PLACES, OWN, bytes, room, answers, WORDS);
 }
 static uint64_t fill(size_t used, size_t rows) {
-    return u32_table_fill(PLACES, used, keys, 3 * PLACES, multiplicities, PLACES, holds, PLACES, table, 10 * rows, answers, WORDS);
+    return u32_table_fill(PLACES, used, keys, 3 * PLACES, OWN, table, 10 * rows, answers, WORDS);
 }
 static uint64_t extend(size_t rows) { return u32_table_extend(table, 10 * rows, aux, 3 * rows, challenges, 15, answers, WORDS); }
 static uint64_t check(size_t rows) { return u32_table_check(table, 10 * rows, aux, 3 * rows, challenges, 15, answers, WORDS); }
@@ -131,7 +141,7 @@ static void held(void) {
     REFUSED(plan(1), U32_TABLE_OPEN_HOLD);
     REFUSED(write(1, 0), U32_TABLE_OPEN_HOLD);
     REFUSED(fill(1, 0), U32_TABLE_OPEN_HOLD);
-    REFUSED(u32_table_fill(PLACES, 1, keys, 12, multiplicities, PLACES, holds, PLACES, table, 7, answers, WORDS), U32_TABLE_SHAPE);
+    REFUSED(u32_table_fill(PLACES, 1, keys, 12, OWN, table, 7, answers, WORDS), U32_TABLE_SHAPE);
     COUNTED(confirm(1, 0), 2, 1);
     COUNTED(drop(1, 0), 2, 0);
     REFUSED(confirm(1, 0), U32_TABLE_NO_HOLD);
@@ -151,16 +161,16 @@ static void held(void) {
     REFUSED(hold(5, 5, 0, 0), U32_TABLE_SHAPE);
     REFUSED(confirm(5, SIZE_MAX), U32_TABLE_SHAPE);
     REFUSED(drop(5, SIZE_MAX), U32_TABLE_SHAPE);
-    REFUSED(u32_table_hold(PLACES, 1, keys, 12, multiplicities, PLACES, holds, PLACES, 14, 3, 1, answers, 1), U32_TABLE_SHAPE);
-    REFUSED(u32_table_hold(PLACES, 1, keys, 12, multiplicities, PLACES, holds, PLACES - 1, 5, 0, 0, answers, WORDS), U32_TABLE_SHAPE);
-    REFUSED(u32_table_record(PLACES, 1, keys, 12, multiplicities, PLACES, holds, PLACES - 1, 5, 0, 0, answers, WORDS), U32_TABLE_SHAPE);
-    STOPPED(u32_table_replay(PLACES, 1, keys, 12, multiplicities, PLACES, holds, PLACES - 1, NULL, 0, answers, WORDS), U32_TABLE_SHAPE, 0, 1);
+    REFUSED(u32_table_hold(PLACES, 1, keys, 12, OWN, OTHER, 14, 3, 1, answers, 1), U32_TABLE_SHAPE);
+    REFUSED(u32_table_hold(PLACES, 1, keys, 12, multiplicities, PLACES, holds, PLACES - 1, OTHER, 5, 0, 0, answers, WORDS), U32_TABLE_SHAPE);
+    REFUSED(u32_table_record(PLACES, 1, keys, 12, multiplicities, PLACES, holds, PLACES - 1, OTHER, 5, 0, 0, answers, WORDS), U32_TABLE_SHAPE);
+    STOPPED(u32_table_replay(PLACES, 1, keys, 12, multiplicities, PLACES, holds, PLACES - 1, OTHER, NULL, 0, answers, WORDS), U32_TABLE_SHAPE, 0, 1);
     REFUSED(u32_table_plan(PLACES, 1, keys, 12, multiplicities, PLACES, holds, PLACES - 1, answers, WORDS), U32_TABLE_SHAPE);
-    REFUSED(u32_table_read(NULL, 0, PLACES, 1, keys, 12, multiplicities, PLACES, holds, PLACES - 1, answers, WORDS), U32_TABLE_SHAPE);
+    REFUSED(u32_table_read(NULL, 0, PLACES, 1, keys, 12, multiplicities, PLACES, holds, PLACES - 1, OTHER, answers, WORDS), U32_TABLE_SHAPE);
     REFUSED(u32_table_write(PLACES, 1, keys, 12, multiplicities, PLACES, holds, PLACES - 1, bytes, 256, answers, WORDS), U32_TABLE_SHAPE);
     REFUSED(u32_table_fill(PLACES, 1, keys, 12, multiplicities, PLACES, holds, PLACES - 1, table, 160, answers, WORDS), U32_TABLE_SHAPE);
     REFUSED(u32_table_confirm(PLACES, 1, keys, 12, multiplicities, PLACES, holds, PLACES - 1, 0), U32_TABLE_SHAPE);
-    REFUSED(u32_table_confirm(PLACES, 1, keys, 11, multiplicities, PLACES, holds, PLACES, 0), U32_TABLE_SHAPE);
+    REFUSED(u32_table_confirm(PLACES, 1, keys, 11, OWN, 0), U32_TABLE_SHAPE);
     REFUSED(u32_table_drop(PLACES, 1, keys, 12, multiplicities, PLACES - 1, holds, PLACES, 0), U32_TABLE_SHAPE);
     REFUSED(u32_table_drop(PLACES, 1, keys, 12, multiplicities, PLACES, holds, PLACES - 1, 0), U32_TABLE_SHAPE);
 
@@ -168,7 +178,7 @@ static void held(void) {
     REFUSED(hold(1, 5, pow2_32, 0), U32_TABLE_STRANGER);
     REFUSED(hold(1, U32_TABLE_LOG_2_FLOOR, 0, pow2_32), U32_TABLE_WIDE);
     REFUSED(hold(1, U32_TABLE_LOG_2_FLOOR, 0, 0), U32_TABLE_BARE_LOG);
-    REFUSED(u32_table_hold(1, 1, keys, 3, multiplicities, 1, holds, 1, U32_TABLE_LT, 2, 3, answers, WORDS), U32_TABLE_LIST_FULL);
+    REFUSED(u32_table_hold(1, 1, keys, 3, multiplicities, 1, holds, 1, other_multiplicities, 1, other_holds, 1, U32_TABLE_LT, 2, 3, answers, WORDS), U32_TABLE_LIST_FULL);
 
     /* 5 by count plus holds, also where their sum passes 2^64; confirm's 5 after 16, on words that no hold made */
     multiplicities[0] = most - 1;
@@ -197,27 +207,190 @@ static void held(void) {
     COUNTED(confirm(1, 0), 2, 0);
     expect("reduced", keys[0] == 30 && keys[1] == 5 && keys[2] == 3, 1);
 
-    /* a key dropped back to 0 keeps its place and has a section: 3 rows, padded height 256 */
+    /* a key dropped back to 0 keeps its place and has no section: no rows, padded height 256, nothing stored; recorded again it has one */
     DONE(hold(0, U32_TABLE_AND, 3, 1), 2, 0, 1);
     COUNTED(drop(1, 0), 0, 0);
-    DONE(plan(1), 2, 3, 256);
-    DONE(fill(1, 8), 1, 3);
-    expect("its multiplicity", table[0] == 1 && table[U32_TABLE_LOOKUP_MULTIPLICITY] == 0, 1);
-    expect("pad", u32_table_pad(table, 80, 3), 0);
+    DONE(plan(1), 2, 0, 256);
+    for (int i = 0; i < 80; i++) table[i] = MARK;
+    DONE(fill(1, 8), 1, 0);
+    tables_kept("no section");
+    expect("pad", u32_table_pad(table, 80, 0), 0);
     for (int i = 0; i < 15; i++) challenges[i] = (uint64_t)(1000 + 77 * i);
     DONE(extend(8), 3, 0, 0, 0);
     DONE(check(8), 1, 0);
+    DONE(write(1, sizeof bytes), 1, U32_TABLE_STORED_BYTES(0));
+    expect("no entries, no rows", (uint64_t)(bytes[0] | bytes[4]), 0);
+    DONE(record(1, U32_TABLE_AND, 3, 1), 2, 0, 1);
+    DONE(plan(1), 2, 3, 256);
+    DONE(fill(1, 8), 1, 3);
+    expect("its multiplicity", table[0] == 1 && table[U32_TABLE_LOOKUP_MULTIPLICITY] == 1, 1);
 
-    /* reading clears the holds of its N places and no others, and is not refused by a hold */
+    /* reading clears the holds of its N places and no others, and is not refused by a hold of an unused place */
     DONE(write(1, sizeof bytes), 1, U32_TABLE_STORED_BYTES(1));
     for (int i = 0; i < PLACES; i++) holds[i] = 4;
     DONE(read(U32_TABLE_STORED_BYTES(1)), 1, 1);
     expect("cleared", holds[0] == 0 && holds[1] == 4 && holds[2] == 4 && holds[3] == 4, 1);
-    holds[0] = 1;
-    DONE(u32_table_read(bytes, 33, PLACES, 1, keys, 12, multiplicities, PLACES, holds, PLACES, answers, WORDS), 1, 1);
-    expect("cleared again", holds[0] == 0 && holds[1] == 4, 1);
     bytes[0] = 9, holds[0] = 1;
     REFUSED(read(U32_TABLE_STORED_BYTES(1)), U32_TABLE_TORN);
+    memset(holds, 0, sizeof holds), memset(keys, 0, sizeof keys), memset(multiplicities, 0, sizeof multiplicities), memset(bytes, 0, sizeof bytes);
+}
+
+/* ---- two recorders: the calls of the second, whose own arrays are the first one's other */
+static uint64_t second_record(size_t used, uint64_t opcode, uint64_t lhs, uint64_t rhs) {
+    return u32_table_record(PLACES, used, keys, 3 * PLACES, OTHER, OWN, opcode, lhs, rhs, answers, WORDS);
+}
+static uint64_t second_hold(size_t used, uint64_t opcode, uint64_t lhs, uint64_t rhs) {
+    return u32_table_hold(PLACES, used, keys, 3 * PLACES, OTHER, OWN, opcode, lhs, rhs, answers, WORDS);
+}
+static uint64_t second_confirm(size_t used, size_t position) { return u32_table_confirm(PLACES, used, keys, 3 * PLACES, OTHER, position); }
+static uint64_t second_replay(size_t used, const uint64_t *trace, size_t words) {
+    return u32_table_replay(PLACES, used, keys, 3 * PLACES, OTHER, OWN, trace, words, answers, WORDS);
+}
+static uint64_t second_plan(size_t used) { return u32_table_plan(PLACES, used, keys, 3 * PLACES, OTHER, answers, WORDS); }
+static uint64_t second_read(size_t used, size_t n) {
+    return u32_table_read(bytes, n, PLACES, used, keys, 3 * PLACES, OTHER, OWN, answers, WORDS);
+}
+static uint64_t second_write(size_t used, size_t room) {
+    return u32_table_write(PLACES, used, keys, 3 * PLACES, OTHER, bytes, room, answers, WORDS);
+}
+static uint64_t second_fill(size_t used, size_t rows) {
+    return u32_table_fill(PLACES, used, keys, 3 * PLACES, OTHER, table, 10 * rows, answers, WORDS);
+}
+
+/* words that tell the four arrays apart, and no key */
+static void fresh(void) {
+    for (int i = 0; i < 3 * PLACES; i++) keys[i] = MARK;
+    for (int i = 0; i < PLACES; i++) multiplicities[i] = 7, holds[i] = 8, other_multiplicities[i] = 5, other_holds[i] = 6;
+}
+
+/* all words of an array, one by one */
+static void four(const char *what, const uint64_t *array, const uint64_t *wanted) {
+    for (int i = 0; i < PLACES; i++) expect(what, array[i], wanted[i]);
+}
+#define FOUR(array, ...) four(#array, array, (const uint64_t[PLACES]){__VA_ARGS__})
+
+static void two_recorders(void) {
+    /* a place that comes into use: own count 1 and no hold, and the other has neither; unused places keep their words */
+    fresh();
+    DONE(record(0, U32_TABLE_AND, 3, 1), 2, 0, 1);
+    FOUR(multiplicities, 1, 7, 7, 7), FOUR(holds, 0, 8, 8, 8), FOUR(other_multiplicities, 0, 5, 5, 5), FOUR(other_holds, 0, 6, 6, 6);
+    /* a known key: the own count alone */
+    DONE(second_record(1, U32_TABLE_AND, 3, 1), 2, 0, 1);
+    DONE(second_record(1, U32_TABLE_AND, 3, 1), 2, 0, 1);
+    FOUR(multiplicities, 1, 7, 7, 7), FOUR(holds, 0, 8, 8, 8), FOUR(other_multiplicities, 2, 5, 5, 5), FOUR(other_holds, 0, 6, 6, 6);
+    DONE(second_hold(1, U32_TABLE_LT, 2, 3), 2, 1, 2);
+    FOUR(multiplicities, 1, 0, 7, 7), FOUR(holds, 0, 0, 8, 8), FOUR(other_multiplicities, 2, 0, 5, 5), FOUR(other_holds, 0, 1, 6, 6);
+
+    /* a hold opens the list of its own recorder alone, and no other can end it */
+    DONE(plan(2), 2, 3, 256);
+    REFUSED(second_plan(2), U32_TABLE_OPEN_HOLD);
+    REFUSED(second_write(2, sizeof bytes), U32_TABLE_OPEN_HOLD);
+    REFUSED(second_fill(2, 8), U32_TABLE_OPEN_HOLD);
+    REFUSED(confirm(2, 1), U32_TABLE_NO_HOLD);
+    REFUSED(drop(2, 1), U32_TABLE_NO_HOLD);
+    DONE(second_confirm(2, 1), 0, 0);
+    FOUR(multiplicities, 1, 0, 7, 7), FOUR(holds, 0, 0, 8, 8), FOUR(other_multiplicities, 2, 1, 5, 5), FOUR(other_holds, 0, 0, 6, 6);
+
+    /* plan, stored list and table of each */
+    DONE(plan(2), 2, 3, 256);
+    DONE(second_plan(2), 2, 6, 256);
+    DONE(write(2, sizeof bytes), 1, U32_TABLE_STORED_BYTES(1));
+    expect("the first's", bytes[0] == 1 && bytes[4] == 3 && bytes[8] == 14 && bytes[8 + 17] == 1, 1);
+    DONE(second_write(2, sizeof bytes), 1, U32_TABLE_STORED_BYTES(2));
+    expect("the second's", bytes[0] == 2 && bytes[4] == 6 && bytes[8] == 14 && bytes[8 + 17] == 6 && bytes[8 + 34] == 2 && bytes[8 + 42] == 1, 1);
+    for (int i = 0; i < 80; i++) table[i] = MARK;
+    DONE(fill(2, 8), 1, 3);
+    expect("the first's row", table[U32_TABLE_LOOKUP_MULTIPLICITY] == 1 && table[30] == MARK, 1);
+    DONE(second_fill(2, 8), 1, 6);
+    expect("the second's rows", table[U32_TABLE_LOOKUP_MULTIPLICITY] == 2 && table[30 + U32_TABLE_CI] == 6 && table[60] == MARK, 1);
+
+    /* a replay that stops has brought places into use: cleared by the places, and not by the answer */
+    fresh();
+    STOPPED(replay(0, (uint64_t[]){6, 1, 2, 20, 7, 2, 12, 0, 9}, 9), U32_TABLE_BARE_LOG, 2, 2);
+    FOUR(multiplicities, 2, 1, 7, 7), FOUR(holds, 0, 0, 8, 8), FOUR(other_multiplicities, 0, 0, 5, 5), FOUR(other_holds, 0, 0, 6, 6);
+    STOPPED(replay(2, (uint64_t[]){12, 0, 9}, 3), U32_TABLE_BARE_LOG, 0, 2);
+    lists_kept("a first step that is refused");
+    DONE(second_replay(2, (uint64_t[]){20, 9, 2, 14, 3, 1}, 6), 2, 2, 4);
+    FOUR(multiplicities, 2, 1, 0, 0), FOUR(holds, 0, 0, 0, 0), FOUR(other_multiplicities, 1, 0, 1, 1), FOUR(other_holds, 0, 0, 0, 0);
+
+    /* reading: and 1, 1 with multiplicity 0, and 3, 1 with 2; both are examined and take a place, and one is counted */
+    put(0, U32_TABLE_AND, 1, 1, 1), put(1, U32_TABLE_AND, 3, 1, 2);
+    DONE(write(2, sizeof bytes), 1, 58);
+    bytes[8 + 34] = 0;
+    fresh();
+    DONE(second_read(0, 58), 1, 2);
+    FOUR(multiplicities, 0, 0, 7, 7), FOUR(holds, 0, 0, 8, 8), FOUR(other_multiplicities, 0, 2, 5, 5), FOUR(other_holds, 0, 0, 6, 6);
+    expect("keys", keys[1] == 1 && keys[4] == 3 && keys[6] == MARK, 1);
+    DONE(plan(2), 2, 0, 256);
+    DONE(second_plan(2), 2, 3, 256);
+    bytes[4] = 3;
+    REFUSED(second_read(0, 58), U32_TABLE_TALLY);
+    bytes[4] = 5, bytes[8] = 5;
+    REFUSED(second_read(0, 58), U32_TABLE_STRANGER);
+    /* onto a list that has a key: 6 after 10, before 2, also for no entries */
+    REFUSED(second_read(2, 58), U32_TABLE_LIST_FULL);
+    REFUSED(second_read(1, 58), U32_TABLE_LIST_FULL);
+    REFUSED(second_read(1, 57), U32_TABLE_TORN);
+    memset(bytes, 0, sizeof bytes);
+    REFUSED(second_read(1, 8), U32_TABLE_LIST_FULL);
+    REFUSED(second_read(1, 7), U32_TABLE_TORN);
+    DONE(second_read(0, 8), 1, 0);
+    lists_kept("no entries");
+    DONE(second_write(2, sizeof bytes), 1, 33);
+    expect("the counted key", bytes[0] == 1 && bytes[4] == 3 && bytes[9] == 3 && bytes[25] == 2, 1);
+
+    /* left-out keys are not examined: a stranger, an equal key; their own holds are looked at, and never the other's */
+    fresh();
+    put(0, 5, UINT64_MAX, 0, 0), put(1, U32_TABLE_AND, 1, 1, 2), put(2, U32_TABLE_AND, 1, 1, 0);
+    for (int i = 0; i < 3; i++) holds[i] = other_holds[i] = other_multiplicities[i] = 0;
+    other_holds[0] = 1;
+    DONE(plan(3), 2, 2, 256);
+    DONE(fill(3, 8), 1, 2);
+    expect("its row", table[U32_TABLE_LHS] == 1 && table[U32_TABLE_LOOKUP_MULTIPLICITY] == 2, 1);
+    DONE(write(3, sizeof bytes), 1, 33);
+    expect("the counted key", bytes[0] == 1 && bytes[4] == 2 && bytes[8] == 14 && bytes[9] == 1 && bytes[17] == 1 && bytes[25] == 2, 1);
+    REFUSED(write(3, 32), U32_TABLE_SHORT);
+    REFUSED(second_plan(3), U32_TABLE_OPEN_HOLD);
+    other_holds[0] = 0;
+    DONE(second_plan(3), 2, 0, 256);
+    DONE(second_write(3, sizeof bytes), 1, 8);
+    holds[0] = 1;
+    REFUSED(plan(3), U32_TABLE_OPEN_HOLD);
+    REFUSED(write(3, sizeof bytes), U32_TABLE_OPEN_HOLD);
+    REFUSED(fill(3, 8), U32_TABLE_OPEN_HOLD);
+    holds[0] = 0, multiplicities[1] = U32_TABLE_P;
+    REFUSED(plan(3), U32_TABLE_COUNT_FULL);
+    multiplicities[1] = 2, multiplicities[2] = 1;
+    REFUSED(write(3, sizeof bytes), U32_TABLE_REPEAT);
+    multiplicities[0] = 1;
+    REFUSED(plan(3), U32_TABLE_STRANGER);
+
+    /* one place for both: 6 for the second's new key, and none for the known one */
+    fresh();
+    DONE(u32_table_record(1, 0, keys, 3, multiplicities, 1, holds, 1, other_multiplicities, 1, other_holds, 1, 14, 3, 1, answers, WORDS), 2, 0, 1);
+    REFUSED(u32_table_record(1, 1, keys, 3, other_multiplicities, 1, other_holds, 1, multiplicities, 1, holds, 1, 6, 2, 3, answers, WORDS), U32_TABLE_LIST_FULL);
+    DONE(u32_table_record(1, 1, keys, 3, other_multiplicities, 1, other_holds, 1, multiplicities, 1, holds, 1, 14, 3, 1, answers, WORDS), 2, 0, 1);
+    FOUR(multiplicities, 1, 7, 7, 7), FOUR(holds, 0, 8, 8, 8), FOUR(other_multiplicities, 1, 5, 5, 5), FOUR(other_holds, 0, 6, 6, 6);
+
+    /* the other's arrays of another length, each by itself: 1, also where the call would have nothing to do there, and nothing is changed */
+    for (size_t n = 0; n < 3; n++) {
+        const size_t m = n == 1 ? 2 : 3, h = n == 2 ? 2 : 3, places = n == 0 ? 2 : 3; /* too long, both; too short, one of them */
+        REFUSED(u32_table_record(places, 0, keys, 3 * places, multiplicities, places, holds, places, other_multiplicities, m, other_holds, h, 14, 3, 1, answers, WORDS), U32_TABLE_SHAPE);
+        REFUSED(u32_table_record(places, 0, keys, 3 * places, multiplicities, places, holds, places, other_multiplicities, m, other_holds, h, 5, 3, 1, answers, WORDS), U32_TABLE_SHAPE);
+        REFUSED(u32_table_record(places, 1, keys, 3 * places, multiplicities, places, holds, places, other_multiplicities, m, other_holds, h, 14, 3, 1, answers, WORDS), U32_TABLE_SHAPE);
+        REFUSED(u32_table_hold(places, 0, keys, 3 * places, multiplicities, places, holds, places, other_multiplicities, m, other_holds, h, 14, 3, 1, answers, WORDS), U32_TABLE_SHAPE);
+        REFUSED(u32_table_hold(places, 1, keys, 3 * places, multiplicities, places, holds, places, other_multiplicities, m, other_holds, h, 5, 3, 1, answers, WORDS), U32_TABLE_SHAPE);
+        STOPPED(u32_table_replay(places, 0, keys, 3 * places, multiplicities, places, holds, places, other_multiplicities, m, other_holds, h, (uint64_t[]){14, 3, 1}, 3, answers, WORDS),
+                U32_TABLE_SHAPE, 0, 0);
+        lists_kept("a replay with the other's arrays of another length");
+        REFUSED(u32_table_read(bytes, 8, places, 0, keys, 3 * places, multiplicities, places, holds, places, other_multiplicities, m, other_holds, h, answers, WORDS), U32_TABLE_SHAPE);
+        REFUSED(u32_table_read(bytes, 7, places, 1, keys, 3 * places, multiplicities, places, holds, places, other_multiplicities, m, other_holds, h, answers, WORDS), U32_TABLE_SHAPE);
+    }
+    /* and where `answers` is too short */
+    REFUSED(u32_table_record(PLACES, 0, keys, 12, OWN, OTHER, 14, 3, 1, answers, 1), U32_TABLE_SHAPE);
+    REFUSED(u32_table_hold(PLACES, 0, keys, 12, OWN, OTHER, 14, 3, 1, answers, 1), U32_TABLE_SHAPE);
+    REFUSED(u32_table_replay(PLACES, 0, keys, 12, OWN, OTHER, (uint64_t[]){14, 3, 1}, 3, answers, 1), U32_TABLE_SHAPE);
+    REFUSED(u32_table_read(bytes, 8, PLACES, 0, keys, 12, OWN, OTHER, answers, 0), U32_TABLE_SHAPE);
     memset(holds, 0, sizeof holds), memset(keys, 0, sizeof keys), memset(multiplicities, 0, sizeof multiplicities), memset(bytes, 0, sizeof bytes);
 }
 
@@ -230,10 +403,10 @@ static void lists(void) {
     expect("keys", keys[0] == 14 && keys[1] == 3 && keys[2] == 1 && keys[3] == 6 && keys[4] == 2 && keys[5] == 3, 1);
     expect("multiplicities", multiplicities[0] == 2 && multiplicities[1] == 1, 1);
     REFUSED(record(5, 5, 0, 0), U32_TABLE_SHAPE);
-    REFUSED(u32_table_record(PLACES, 2, keys, 3 * PLACES - 1, multiplicities, PLACES, holds, PLACES, 4, 0, 0, answers, WORDS), U32_TABLE_SHAPE);
-    REFUSED(u32_table_record(PLACES, 2, keys, 3 * PLACES, multiplicities, PLACES - 1, holds, PLACES, 4, 0, 0, answers, WORDS), U32_TABLE_SHAPE);
-    REFUSED(u32_table_record(2049, 2, keys, 3 * PLACES, multiplicities, PLACES, holds, PLACES, 4, 0, 0, answers, WORDS), U32_TABLE_SHAPE);
-    REFUSED(u32_table_record(PLACES, 2, keys, 3 * PLACES, multiplicities, PLACES, holds, PLACES, 4, 0, 0, answers, 1), U32_TABLE_SHAPE);
+    REFUSED(u32_table_record(PLACES, 2, keys, 3 * PLACES - 1, OWN, OTHER, 4, 0, 0, answers, WORDS), U32_TABLE_SHAPE);
+    REFUSED(u32_table_record(PLACES, 2, keys, 3 * PLACES, multiplicities, PLACES - 1, holds, PLACES, OTHER, 4, 0, 0, answers, WORDS), U32_TABLE_SHAPE);
+    REFUSED(u32_table_record(2049, 2, keys, 3 * PLACES, OWN, OTHER, 4, 0, 0, answers, WORDS), U32_TABLE_SHAPE);
+    REFUSED(u32_table_record(PLACES, 2, keys, 3 * PLACES, OWN, OTHER, 4, 0, 0, answers, 1), U32_TABLE_SHAPE);
     REFUSED(record(2, 5, pow2_32, 0), U32_TABLE_STRANGER);
     REFUSED(record(2, U32_TABLE_LOG_2_FLOOR, 0, pow2_32), U32_TABLE_WIDE);
     REFUSED(record(2, U32_TABLE_POW, U32_TABLE_P, pow2_32), U32_TABLE_WIDE);
@@ -285,7 +458,7 @@ static void lists(void) {
     STOPPED(replay(4, trace, 2), U32_TABLE_SHAPE, 0, 4);
     STOPPED(replay(5, trace, 0), U32_TABLE_SHAPE, 0, 5);
     lists_kept("refused steps keep the list");
-    REFUSED(u32_table_replay(PLACES, 0, keys, 3 * PLACES, multiplicities, PLACES, holds, PLACES, trace, 3, answers, 1), U32_TABLE_SHAPE);
+    REFUSED(u32_table_replay(PLACES, 0, keys, 3 * PLACES, OWN, OTHER, trace, 3, answers, 1), U32_TABLE_SHAPE);
     put(0, U32_TABLE_AND, 3, 1, 2), put(1, U32_TABLE_LT, 2, 3, 1);
     put(2, U32_TABLE_POW, U32_TABLE_P - 1, 5, 1), put(3, U32_TABLE_POP_COUNT, pow2_32 - 1, 0, 1);
 
@@ -299,7 +472,7 @@ static void lists(void) {
     DONE(plan(4), 2, 43, 256);
     DONE(plan(0), 2, 0, 256);
     REFUSED(plan(5), U32_TABLE_SHAPE);
-    REFUSED(u32_table_plan(PLACES, 4, keys, 3 * PLACES, multiplicities, PLACES, holds, PLACES, answers, 1), U32_TABLE_SHAPE);
+    REFUSED(u32_table_plan(PLACES, 4, keys, 3 * PLACES, OWN, answers, 1), U32_TABLE_SHAPE);
     keys[3] = 7;
     REFUSED(plan(2), U32_TABLE_STRANGER);
     keys[3] = 6, keys[4] = pow2_32;
@@ -318,7 +491,7 @@ static void lists(void) {
     expect("first multiplicity", bytes[8 + 17 * 4], 2);
     expect("bytes past the end", bytes[8 + 25 * 4], MARK);
     REFUSED(write(5, sizeof bytes), U32_TABLE_SHAPE);
-    REFUSED(u32_table_write(PLACES, 4, keys, 3 * PLACES, multiplicities, PLACES, holds, PLACES, bytes, sizeof bytes, answers, 0), U32_TABLE_SHAPE);
+    REFUSED(u32_table_write(PLACES, 4, keys, 3 * PLACES, OWN, bytes, sizeof bytes, answers, 0), U32_TABLE_SHAPE);
     REFUSED(write(4, U32_TABLE_STORED_BYTES(4) - 1), U32_TABLE_SHORT);
     multiplicities[0] = U32_TABLE_P;
     REFUSED(write(4, sizeof bytes), U32_TABLE_COUNT_FULL);
@@ -334,10 +507,10 @@ static void lists(void) {
     expect("read", keys[0] == 14 && keys[1] == 3 && keys[6] == 30 && keys[7] == U32_TABLE_P - 1 && multiplicities[0] == 2, 1);
     expect("places past N", keys[9] == MARK && multiplicities[3] == MARK, 1);
     const size_t full = U32_TABLE_STORED_BYTES(3), old = 8 + 21 * 3;
-    REFUSED(u32_table_read(bytes, full, PLACES, 5, keys, 3 * PLACES, multiplicities, PLACES, holds, PLACES, answers, WORDS), U32_TABLE_SHAPE);
-    REFUSED(u32_table_read(bytes, full, PLACES, 0, keys, 3 * PLACES, multiplicities, PLACES, holds, PLACES, answers, 0), U32_TABLE_SHAPE);
+    REFUSED(u32_table_read(bytes, full, PLACES, 5, keys, 3 * PLACES, OWN, OTHER, answers, WORDS), U32_TABLE_SHAPE);
+    REFUSED(u32_table_read(bytes, full, PLACES, 0, keys, 3 * PLACES, OWN, OTHER, answers, 0), U32_TABLE_SHAPE);
     REFUSED(read(full - 1), U32_TABLE_TORN);
-    REFUSED(u32_table_read(bytes, full, 2, 0, keys, 6, multiplicities, 2, holds, 2, answers, WORDS), U32_TABLE_LIST_FULL);
+    REFUSED(u32_table_read(bytes, full, 2, 0, keys, 6, multiplicities, 2, holds, 2, other_multiplicities, 2, other_holds, 2, answers, WORDS), U32_TABLE_LIST_FULL);
     bytes[8] = 5;
     REFUSED(read(full), U32_TABLE_STRANGER);
     bytes[8] = 14, bytes[9 + 7] = 1;
@@ -364,7 +537,8 @@ static void lists(void) {
     REFUSED(read(old + 1), U32_TABLE_TORN);
     DONE(read(old), 1, 3);
     expect("halves", multiplicities[0] == 0 && multiplicities[1] == pow2_32 - 1 && multiplicities[2] == 1, 1);
-    DONE(write(3, sizeof bytes), 1, full);
+    DONE(write(3, sizeof bytes), 1, U32_TABLE_STORED_BYTES(2));
+    expect("without the first", bytes[0] == 2 && bytes[8] == 6 && bytes[8 + 17] == 30, 1);
 }
 
 static void tables(void) {
@@ -376,8 +550,8 @@ static void tables(void) {
 
     /* filling: 3 + 3 + 4 + 1 rows */
     REFUSED(fill(5, 16), U32_TABLE_SHAPE);
-    REFUSED(u32_table_fill(PLACES, 4, keys, 12, multiplicities, PLACES, holds, PLACES, table, 159, answers, WORDS), U32_TABLE_SHAPE);
-    REFUSED(u32_table_fill(PLACES, 4, keys, 12, multiplicities, PLACES, holds, PLACES, table, 160, answers, 0), U32_TABLE_SHAPE);
+    REFUSED(u32_table_fill(PLACES, 4, keys, 12, OWN, table, 159, answers, WORDS), U32_TABLE_SHAPE);
+    REFUSED(u32_table_fill(PLACES, 4, keys, 12, OWN, table, 160, answers, 0), U32_TABLE_SHAPE);
     keys[3] = 7;
     REFUSED(fill(4, 16), U32_TABLE_STRANGER);
     keys[3] = 6, keys[5] = UINT64_C(1) << 32;
@@ -741,13 +915,13 @@ static void no_arrays(void) {
     REFUSED(u32_table_client_sum(NULL, 0, NULL, 0, NULL, 0), U32_TABLE_SHAPE);
     DONE(u32_table_batches(NULL, 0, 1, NULL, 0, answers, WORDS), 2, 0, 0);
     DONE(u32_table_plan(0, 0, NULL, 0, NULL, 0, NULL, 0, answers, WORDS), 2, 0, 256);
-    REFUSED(u32_table_record(0, 0, NULL, 0, NULL, 0, NULL, 0, U32_TABLE_AND, 3, 1, answers, WORDS), U32_TABLE_LIST_FULL);
-    REFUSED(u32_table_read(NULL, 0, 0, 0, NULL, 0, NULL, 0, NULL, 0, answers, WORDS), U32_TABLE_TORN);
+    REFUSED(u32_table_record(0, 0, NULL, 0, NULL, 0, NULL, 0, NULL, 0, NULL, 0, U32_TABLE_AND, 3, 1, answers, WORDS), U32_TABLE_LIST_FULL);
+    REFUSED(u32_table_read(NULL, 0, 0, 0, NULL, 0, NULL, 0, NULL, 0, NULL, 0, NULL, 0, answers, WORDS), U32_TABLE_TORN);
     REFUSED(u32_table_write(0, 0, NULL, 0, NULL, 0, NULL, 0, NULL, 0, answers, WORDS), U32_TABLE_SHORT);
     DONE(u32_table_write(0, 0, NULL, 0, NULL, 0, NULL, 0, bytes, sizeof bytes, answers, WORDS), 1, 8);
-    DONE(u32_table_read(bytes, 8, 0, 0, NULL, 0, NULL, 0, NULL, 0, answers, WORDS), 1, 0);
+    DONE(u32_table_read(bytes, 8, 0, 0, NULL, 0, NULL, 0, NULL, 0, NULL, 0, NULL, 0, answers, WORDS), 1, 0);
     DONE(u32_table_fill(0, 0, NULL, 0, NULL, 0, NULL, 0, NULL, 0, answers, WORDS), 1, 0);
-    REFUSED(u32_table_hold(0, 0, NULL, 0, NULL, 0, NULL, 0, U32_TABLE_AND, 3, 1, answers, WORDS), U32_TABLE_LIST_FULL);
+    REFUSED(u32_table_hold(0, 0, NULL, 0, NULL, 0, NULL, 0, NULL, 0, NULL, 0, U32_TABLE_AND, 3, 1, answers, WORDS), U32_TABLE_LIST_FULL);
     REFUSED(u32_table_confirm(0, 0, NULL, 0, NULL, 0, NULL, 0, 0), U32_TABLE_NO_HOLD);
     REFUSED(u32_table_drop(0, 0, NULL, 0, NULL, 0, NULL, 0, 0), U32_TABLE_NO_HOLD);
     expect("pad of no rows", u32_table_pad(NULL, 0, 0), 0);
@@ -757,11 +931,11 @@ static void no_arrays(void) {
     REFUSED(u32_table_check(NULL, 0, NULL, 0, challenges, 15, answers, WORDS), U32_TABLE_SHORT);
     REFUSED(u32_table_check(NULL, 0, NULL, 0, NULL, 0, answers, WORDS), U32_TABLE_SHAPE);
     /* and so for `answers`, which is too short then */
-    REFUSED(u32_table_record(0, 0, NULL, 0, NULL, 0, NULL, 0, 4, 0, 0, NULL, 0), U32_TABLE_SHAPE);
-    REFUSED(u32_table_hold(0, 0, NULL, 0, NULL, 0, NULL, 0, 4, 0, 0, NULL, 0), U32_TABLE_SHAPE);
+    REFUSED(u32_table_record(0, 0, NULL, 0, NULL, 0, NULL, 0, NULL, 0, NULL, 0, 4, 0, 0, NULL, 0), U32_TABLE_SHAPE);
+    REFUSED(u32_table_hold(0, 0, NULL, 0, NULL, 0, NULL, 0, NULL, 0, NULL, 0, 4, 0, 0, NULL, 0), U32_TABLE_SHAPE);
     REFUSED(u32_table_compare(4, 0, 0, 4, 0, 0, NULL, 0), U32_TABLE_SHAPE);
     REFUSED(u32_table_plan(0, 0, NULL, 0, NULL, 0, NULL, 0, NULL, 0), U32_TABLE_SHAPE);
-    REFUSED(u32_table_read(NULL, 0, 0, 0, NULL, 0, NULL, 0, NULL, 0, NULL, 0), U32_TABLE_SHAPE);
+    REFUSED(u32_table_read(NULL, 0, 0, 0, NULL, 0, NULL, 0, NULL, 0, NULL, 0, NULL, 0, NULL, 0), U32_TABLE_SHAPE);
     REFUSED(u32_table_write(0, 0, NULL, 0, NULL, 0, NULL, 0, NULL, 0, NULL, 0), U32_TABLE_SHAPE);
     REFUSED(u32_table_fill(0, 0, NULL, 0, NULL, 0, NULL, 0, NULL, 0, NULL, 0), U32_TABLE_SHAPE);
     REFUSED(u32_table_extend(NULL, 0, NULL, 0, NULL, 0, NULL, 0), U32_TABLE_SHAPE);
@@ -769,8 +943,9 @@ static void no_arrays(void) {
 }
 
 int main(void) {
-    expect("the number of the signatures", u32_table_abi_2(), 2);
+    expect("the number of the signatures", u32_table_abi_3(), 3);
     held();
+    two_recorders();
     lists();
     tables();
     client_sums();

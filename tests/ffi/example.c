@@ -7,10 +7,13 @@
 
 enum { PLACES = 16, ROWS = 256 };
 static uint64_t keys[3 * PLACES], counts[PLACES], holds[PLACES], table[10 * ROWS], aux[3 * ROWS], answers[7], challenges[15] = {1};
+/* there is one recorder; the arrays of the second are lent all the same */
+static uint64_t other_counts[PLACES], other_holds[PLACES];
+#define OTHER other_counts, PLACES, other_holds, PLACES
 
 int main(void) {
-    u32_table_record(PLACES, 0, keys, 3 * PLACES, counts, PLACES, holds, PLACES, U32_TABLE_AND, 3, 1, answers, 7);
-    u32_table_hold(PLACES, answers[1], keys, 3 * PLACES, counts, PLACES, holds, PLACES, U32_TABLE_LT, 2, 3, answers, 7);
+    u32_table_record(PLACES, 0, keys, 3 * PLACES, counts, PLACES, holds, PLACES, OTHER, U32_TABLE_AND, 3, 1, answers, 7);
+    u32_table_hold(PLACES, answers[1], keys, 3 * PLACES, counts, PLACES, holds, PLACES, OTHER, U32_TABLE_LT, 2, 3, answers, 7);
     size_t position = answers[0], used = answers[1];
     uint64_t refused = u32_table_confirm(PLACES, used, keys, 3 * PLACES, counts, PLACES, holds, PLACES, position);
     if (!refused) refused = u32_table_fill(PLACES, used, keys, 3 * PLACES, counts, PLACES, holds, PLACES, table, 10 * ROWS, answers, 7);

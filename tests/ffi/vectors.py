@@ -2,10 +2,11 @@
 """Runs call vectors through the C functions: tests/ffi/vectors.py LIBRARY.so FILE.jsonl ..
 
 Each vector is made twice: with `answers` two words longer than stated, of which the last two must stay as they were, and with one word
-too few, which must give 1 and change nothing. The number, the answers and every array are compared. Where a vector of an earlier request names no holds,
-they are lent as zeros, one a place, and must stay so. Of each file and call the first vector that is
-done and the first that is refused are then made wrong in each number that is due, one at a time, and each of these must be told apart. Prints how many
-vectors of each call had each number, and ends with status 1 where anything differs, or a wrong vector does not.
+too few, which must give 1 and change nothing. The number, the answers and every array are compared. Vectors of request 11 have the multiplicities and
+holds of both recorders, and say which of them calls: it is lent its own, and the other's where the call takes them; where it does not, they must be due
+as they were. Where a vector of an earlier request names no holds, or no other recorder, these are lent as zeros, one a place, and must stay so. Of each
+file and call the first vector that is done and the first that is refused are then made wrong in each number that is due, one at a time, and each of these
+must be told apart. Prints how many vectors of each call had each number, and ends with status 1 where anything differs, or a wrong vector does not.
 """
 import collections
 import copy
@@ -14,18 +15,19 @@ import json
 import sys
 
 MARK = 7777
+MOST_PLACES = 2048
 STATED = {"record": 2, "hold": 2, "confirm": 0, "drop": 0, "replay": 2, "compare": 1, "plan": 2, "read": 1, "write": 1, "fill": 1, "pad": 0, "extend": 3, "check": 7,
           "client_sum": 3, "batches": 2, "cascade_record": 1, "byte_sum": 3, "cascade_sum": 3, "archive": 0, "unarchive": 0}
 # the arguments in order: numbers by name, arrays in brackets
 ARGUMENTS = {
-    "record": "capacity used [keys] [mults] [holds] entry",
-    "hold": "capacity used [keys] [mults] [holds] entry",
+    "record": "capacity used [keys] [mults] [holds] [other_mults] [other_holds] entry",
+    "hold": "capacity used [keys] [mults] [holds] [other_mults] [other_holds] entry",
     "confirm": "capacity used [keys] [mults] [holds] position",
     "drop": "capacity used [keys] [mults] [holds] position",
-    "replay": "capacity used [keys] [mults] [holds] [trace]",
+    "replay": "capacity used [keys] [mults] [holds] [other_mults] [other_holds] [trace]",
     "compare": "a b",
     "plan": "capacity used [keys] [mults] [holds]",
-    "read": "[bytes] capacity used [keys] [mults] [holds]",
+    "read": "[bytes] capacity used [keys] [mults] [holds] [other_mults] [other_holds]",
     "write": "capacity used [keys] [mults] [holds] [out]",
     "fill": "capacity used [keys] [mults] [holds] [table]",
     "pad": "[table] filled",
@@ -41,12 +43,29 @@ ARGUMENTS = {
 }
 NAMES = {"cascade_record": "look_up", "unarchive": "restore"}  # of the C function, where it is another
 CASCADES = ("cascade_record", "cascade_sum")  # their keys have 16 bits
+OWN = ("mults", "holds")
+OTHERS = ("other_mults", "other_holds")
 
 
-def with_holds(vector):
-    """The vector with holds of zeros, where its call is lent a list and it names none."""
-    if "[holds]" in ARGUMENTS[vector["call"]] and "holds" not in vector["in"]:
-        vector["in"]["holds"] = ["0"] * len(vector["in"]["mults"])
+def for_caller(numbers, recorder):
+    """Of the pairs of arrays, first's and second's, those of the recorder that calls as its own, and the other's."""
+    for name in OWN:
+        pair = numbers[name]
+        numbers[name], numbers["other_" + name] = pair[recorder], pair[1 - recorder]
+
+
+def with_recorders(vector):
+    """The vector with the arrays of the recorder that calls and those of the other one; zeros where its call is lent them and it names none."""
+    given = vector["in"]
+    if "pad" in given:
+        recorder = int(given.pop("pad"))
+        for_caller(given, recorder)
+        for_caller(vector["after"], recorder)
+    elif "[holds]" in ARGUMENTS[vector["call"]]:
+        given.setdefault("holds", ["0"] * len(given["mults"]))
+        if "[other_holds]" in ARGUMENTS[vector["call"]]:
+            places = int(given["capacity"])
+            given.update({name: ["0"] * (places if places <= MOST_PLACES else 0) for name in OTHERS})
     return vector
 
 
@@ -70,6 +89,11 @@ def kind_of(call, name, value):
     return ctypes.c_uint16 if call in CASCADES and name == "keys" else ctypes.c_uint64
 
 
+def is_array(call, name):
+    """Whether it is an array that the call is lent, or one of the other recorder's."""
+    return f"[{name}]" in ARGUMENTS[call] or name in OTHERS
+
+
 def make(library, vector, words):
     """The number returned, the words of `answers` and every array afterwards."""
     arguments, arrays = [], {}
@@ -86,7 +110,9 @@ def make(library, vector, words):
         arguments += [answers, ctypes.c_size_t(words)]
     function = getattr(library, "u32_table_" + NAMES.get(vector["call"], vector["call"]))
     function.restype = ctypes.c_uint64
-    return function(*arguments), list(answers), {name: list(array) for name, array in arrays.items()}
+    number = function(*arguments)
+    not_lent = {name: content(name, vector["in"][name]) for name in OTHERS if name in vector["in"]}
+    return number, list(answers), {**not_lent, **{name: list(array) for name, array in arrays.items()}}
 
 
 def wanted(vector):
@@ -114,7 +140,7 @@ def wanted(vector):
 def differs(library, vector):
     """The number that is due, and what differs: None where nothing does."""
     call = vector["call"]
-    before = {name: content(name, vector["in"][name]) for name in vector["in"] if f"[{name}]" in ARGUMENTS[call]}
+    before = {name: content(name, vector["in"][name]) for name in vector["in"] if is_array(call, name)}
     after = {**before, **{name: content(name, value) for name, value in vector.get("after", {}).items() if name in before}}
     number, answers = wanted(vector)
     got = make(library, vector, STATED[call] + 2)
@@ -137,7 +163,7 @@ def wrong_ones(vector):
                 wrong["answer"][place + 1] = other if value is word else words[:i] + [other] + words[i + 1:]
                 yield wrong
     for name in vector.get("after", {}):
-        old = content(name, vector["after"][name]) if f"[{name}]" in ARGUMENTS[vector["call"]] else []
+        old = content(name, vector["after"][name]) if is_array(vector["call"], name) else []
         for place in {0, len(old) // 2, len(old) - 1} if old else ():
             wrong = copy.deepcopy(vector)
             new = old[:place] + [old[place] ^ 1] + old[place + 1:]
@@ -154,7 +180,7 @@ def main():
             call = vector["call"]
             if call not in STATED:
                 continue
-            with_holds(vector)
+            with_recorders(vector)
             number, difference = differs(library, vector)
             if difference:
                 differ += 1

@@ -101,7 +101,7 @@ impl From<Stopped> for Refusal {
 /// The rows that a list needs.
 #[derive(Clone, Copy, Debug, PartialEq, Eq, Hash)]
 pub struct Plan {
-    /// The sum of the entries' heights: so many rows are filled.
+    /// The sum of the heights of the entries that have a multiplicity: so many rows are filled.
     pub height: usize,
     /// The smallest power of two that is at least the height and at least 256: all tables of one proof share it, and the byte lookup
     /// always has 256 rows.
@@ -225,30 +225,47 @@ pub fn compare(entry: Entry, other: Entry) -> Ordering {
 /// Records an entry: the first equal key's multiplicity gains one; else the key is appended with multiplicity 1 and no hold, and `sizes.used` is one
 /// more. The answer is the key's position, from 0.
 ///
+/// Two recorders may share sizes and keys, each with multiplicities and holds of its own. Who records lends its own first, then the other's: at the
+/// place of a key that is appended the other's multiplicity and holds become 0, and else they keep their words and do not count. A program with one
+/// recorder lends two more arrays with a word a place, which need no care. [`List`](crate::List) owns the arrays of both.
+///
 /// The left operand of pow is taken modulo [`P`](crate::P), in the entry and in the keys: two words of one base are one key, what is appended is
 /// below [`P`](crate::P), and a key that gains keeps its words.
 ///
-/// Refusals, in this order: shape, stranger, wide, bare log, then count full or list full. Count full looks at the first equal key's count plus holds.
+/// Refusals, in this order: shape, stranger, wide, bare log, then count full or list full. Count full looks at the first equal key's count plus holds,
+/// those of who records.
 ///
 /// ```
 /// use u32_table::{opcodes::{AND, POW}, record, Entry, Sizes, P};
-/// let (mut sizes, mut keys, mut multiplicities, mut holds) = (Sizes { capacity: 2, used: 0 }, [0; 6], [0; 2], [0; 2]);
-/// let mut record = |entry| record(&mut sizes, &mut keys, &mut multiplicities, &mut holds, entry);
-/// assert_eq!(record(Entry::new(AND, 3, 1)), Ok(0));
-/// assert_eq!(record(Entry::new(AND, 3, 1)), Ok(0));
-/// assert_eq!(record(Entry::new(POW, P + 5, 2)), Ok(1));
-/// assert_eq!(record(Entry::new(POW, 5, 2)), Ok(1));
-/// assert_eq!((sizes.used, keys, multiplicities), (2, [14, 3, 1, 30, 5, 2], [2, 2]));
+/// let (mut sizes, mut keys) = (Sizes { capacity: 2, used: 0 }, [0; 6]);
+/// let (mut multiplicities, mut holds, mut other_multiplicities, mut other_holds) = ([9; 2], [9; 2], [9; 2], [9; 2]);
+/// let mut record_it = |entry| {
+///     record(&mut sizes, &mut keys, &mut multiplicities, &mut holds, &mut other_multiplicities, &mut other_holds, entry)
+/// };
+/// assert_eq!(record_it(Entry::new(AND, 3, 1)), Ok(0));
+/// assert_eq!(record_it(Entry::new(AND, 3, 1)), Ok(0));
+/// assert_eq!(record_it(Entry::new(POW, P + 5, 2)), Ok(1));
+/// assert_eq!(record_it(Entry::new(POW, 5, 2)), Ok(1));
+/// assert_eq!((sizes.used, keys, multiplicities, holds), (2, [14, 3, 1, 30, 5, 2], [2, 2], [0, 0]));
+/// assert_eq!((other_multiplicities, other_holds), ([0, 0], [0, 0]));
+///
+/// // the other recorder has a list of the same keys
+/// let entry = Entry::new(POW, 5, 2);
+/// let at = record(&mut sizes, &mut keys, &mut other_multiplicities, &mut other_holds, &mut multiplicities, &mut holds, entry);
+/// assert_eq!((at, multiplicities, other_multiplicities), (Ok(1), [2, 2], [0, 1]));
 /// ```
 pub fn record(
     sizes: &mut Sizes,
     keys: &mut [u64],
     multiplicities: &mut [u64],
     holds: &mut [u64],
+    other_multiplicities: &mut [u64],
+    other_holds: &mut [u64],
     entry: Entry,
 ) -> Result<usize, Refusal> {
     let mut answers = [0; 2];
-    done(sys::record(sizes.numbers(), keys, multiplicities, holds, entry.words(), &mut answers))?;
+    let other = [other_multiplicities, other_holds];
+    done(sys::record(sizes.numbers(), keys, multiplicities, holds, other, entry.words(), &mut answers))?;
     sizes.used = answers[1] as usize;
     Ok(answers[0] as usize)
 }
@@ -256,19 +273,22 @@ pub fn record(
 /// Records an entry in two parts: this is the first, and [`confirm`] or [`drop_hold`] at the position that it answers is the second. The first equal
 /// key gains one hold; else the key is appended with multiplicity 0 and one hold, and `sizes.used` is one more. The answer is the key's position, from 0.
 ///
-/// While a hold is open at a used place, [`plan`], [`fill`] and [`write()`] refuse the list. From a list with no entries on, the multiplicity of a key
-/// is the number of its accepted confirms and recordings, those of replays among them.
+/// While a hold of a recorder is open at a used place, [`plan`], [`fill`] and [`write()`] refuse the list for this recorder. From a list with no entries
+/// on, a recorder's multiplicity of a key is the number of its own accepted confirms and recordings of it, those of replays among them.
 ///
-/// The left operand of pow is taken as [`record`] takes it.
+/// The left operand of pow is taken as [`record`] takes it, and so are the other recorder's two arrays.
 ///
 /// Refusals, in this order: shape, stranger, wide, bare log, then count full (count plus holds) or list full.
 ///
 /// ```
 /// use u32_table::{confirm, drop_hold, hold, opcodes::AND, plan, Entry, Refusal, Sizes};
-/// let (mut sizes, mut keys, mut multiplicities, mut holds) = (Sizes { capacity: 2, used: 0 }, [0; 6], [0; 2], [0; 2]);
+/// let (mut sizes, mut keys) = (Sizes { capacity: 2, used: 0 }, [0; 6]);
+/// let (mut multiplicities, mut holds, mut others) = ([0; 2], [0; 2], [[0; 2]; 2]);
 /// for held in 1..=2 {
-///     assert_eq!(hold(&mut sizes, &mut keys, &mut multiplicities, &mut holds, Entry::new(AND, 3, 1)), Ok(0));
-///     assert_eq!((sizes.used, multiplicities[0], holds[0]), (1, 0, held));
+///     let [other_multiplicities, other_holds] = &mut others;
+///     let entry = Entry::new(AND, 3, 1);
+///     let at = hold(&mut sizes, &mut keys, &mut multiplicities, &mut holds, other_multiplicities, other_holds, entry);
+///     assert_eq!((at, sizes.used, multiplicities[0], holds[0]), (Ok(0), 1, 0, held));
 /// }
 /// assert_eq!(plan(sizes, &keys, &multiplicities, &holds), Err(Refusal::OpenHold));
 ///
@@ -283,10 +303,13 @@ pub fn hold(
     keys: &mut [u64],
     multiplicities: &mut [u64],
     holds: &mut [u64],
+    other_multiplicities: &mut [u64],
+    other_holds: &mut [u64],
     entry: Entry,
 ) -> Result<usize, Refusal> {
     let mut answers = [0; 2];
-    done(sys::hold(sizes.numbers(), keys, multiplicities, holds, entry.words(), &mut answers))?;
+    let other = [other_multiplicities, other_holds];
+    done(sys::hold(sizes.numbers(), keys, multiplicities, holds, other, entry.words(), &mut answers))?;
     sizes.used = answers[1] as usize;
     Ok(answers[0] as usize)
 }
@@ -315,8 +338,8 @@ pub fn confirm(
     done(sys::confirm(sizes.numbers(), keys, multiplicities, holds, position))
 }
 
-/// One hold at the position is no more: the holds there lose one. The key keeps its place, also with multiplicity 0: it is then planned, filled and
-/// written as any other, and can be recorded and held again.
+/// One hold at the position is no more: the holds there lose one. The key keeps its place, also with multiplicity 0: it is then left out by [`plan`],
+/// [`fill`] and [`write()`], and can be recorded and held again.
 ///
 /// Refusals, in this order: shape; no hold, where the position is not used or has none.
 ///
@@ -325,7 +348,7 @@ pub fn confirm(
 /// let (sizes, keys, mut holds) = (Sizes { capacity: 1, used: 1 }, [AND, 3, 1], [1]);
 /// assert_eq!(drop_hold(sizes, &keys, &[0], &mut holds, 0), Ok(()));
 /// assert_eq!(drop_hold(sizes, &keys, &[0], &mut holds, 0), Err(Refusal::NoHold));
-/// assert_eq!(plan(sizes, &keys, &[0], &holds), Ok(Plan { height: 3, padded_height: 256 }));
+/// assert_eq!(plan(sizes, &keys, &[0], &holds), Ok(Plan { height: 0, padded_height: 256 }));
 /// ```
 pub fn drop_hold(sizes: Sizes, keys: &[u64], multiplicities: &[u64], holds: &mut [u64], position: usize) -> Result<(), Refusal> {
     done(sys::drop_hold(sizes.numbers(), keys, multiplicities, holds, position))
@@ -347,41 +370,56 @@ pub fn drop_hold(sizes: Sizes, keys: &[u64], multiplicities: &[u64], holds: &mut
 /// The first refused step ends the replay. It has changed nothing: the list is as the steps before it made it, and [`Stopped`] says how many these
 /// are and why the next one is refused.
 ///
+/// The other recorder's two arrays are taken as [`record`] takes them, also where the replay stops.
+///
 /// Refusals, in this order: shape (of the list, or the trace is not of whole steps), before all steps and with none done; then step by step stranger;
 /// wide; zero divisor or bare log; then count full (count plus holds) or list full. For div_mod a refusal of lt comes before one of split.
 ///
 /// ```
 /// use u32_table::{opcodes::{AND, LT, SPLIT}, replay, steps::{DIV_MOD, XOR}, Refusal, Sizes, Stopped};
-/// let (mut sizes, mut keys, mut multiplicities, mut holds) = (Sizes { capacity: 3, used: 0 }, [0; 9], [0; 3], [0; 3]);
+/// let (mut sizes, mut keys) = (Sizes { capacity: 4, used: 0 }, [0; 12]);
+/// let (mut multiplicities, mut holds, mut others) = ([0; 4], [0; 4], [[9; 4]; 2]);
+/// let [other_multiplicities, other_holds] = &mut others;
 /// let trace = [XOR, 3, 1, DIV_MOD, 7, 2, AND, 3, 1, DIV_MOD, 7, 0, XOR, 3, 1];
-/// let stopped = replay(&mut sizes, &mut keys, &mut multiplicities, &mut holds, &trace);
+/// let stopped = replay(&mut sizes, &mut keys, &mut multiplicities, &mut holds, other_multiplicities, other_holds, &trace);
 /// assert_eq!(stopped, Err(Stopped { refusal: Refusal::ZeroDivisor, done: 3 }));
-/// assert_eq!((sizes.used, keys), (3, [AND, 3, 1, LT, 1, 2, SPLIT, 7, 3]));
-/// assert_eq!(multiplicities, [2, 1, 1]);
+/// assert_eq!((sizes.used, keys), (3, [AND, 3, 1, LT, 1, 2, SPLIT, 7, 3, 0, 0, 0]));
+/// assert_eq!((multiplicities, others), ([2, 1, 1, 0], [[0, 0, 0, 9]; 2]));
 /// ```
 pub fn replay(
     sizes: &mut Sizes,
     keys: &mut [u64],
     multiplicities: &mut [u64],
     holds: &mut [u64],
+    other_multiplicities: &mut [u64],
+    other_holds: &mut [u64],
     trace: &[u64],
 ) -> Result<usize, Stopped> {
     let mut answers = [0; 2];
-    let number = sys::replay(sizes.numbers(), keys, multiplicities, holds, trace, &mut answers);
+    let other = [other_multiplicities, other_holds];
+    let number = sys::replay(sizes.numbers(), keys, multiplicities, holds, other, trace, &mut answers);
     let steps = answers[0] as usize;
     sizes.used = answers[1] as usize;
     done(number).map(|()| steps).map_err(|refusal| Stopped { refusal, done: steps })
 }
 
-/// The rows that a list needs.
+/// The rows that a list needs for the recorder whose multiplicities and holds are lent.
 ///
-/// Refusals, in this order: shape; open hold; then entry by entry stranger, wide, bare log, count full.
+/// Keys with multiplicity 0 are left out: they need no rows, and of them nothing is asked but that no hold is open.
+///
+/// Refusals, in this order: shape; open hold; then, of keys with a multiplicity, entry by entry stranger, wide, bare log, count full.
+///
+/// It takes up to 70 KB of stack: see [the crate's page](crate#stack).
 ///
 /// ```
-/// use u32_table::{opcodes::AND, plan, Plan, Refusal, Sizes};
-/// let sizes = Sizes { capacity: 1, used: 1 };
-/// assert_eq!(plan(sizes, &[AND, 3, 1], &[2], &[0]), Ok(Plan { height: 3, padded_height: 256 }));
-/// assert_eq!(plan(sizes, &[AND, 3, 1], &[2], &[1]), Err(Refusal::OpenHold));
+/// use u32_table::{opcodes::{AND, LT}, plan, Plan, Refusal, Sizes};
+/// let (sizes, keys) = (Sizes { capacity: 2, used: 2 }, [AND, 3, 1, LT, 9, 9]);
+/// assert_eq!(plan(sizes, &keys, &[2, 1], &[0, 0]), Ok(Plan { height: 8, padded_height: 256 }));
+/// assert_eq!(plan(sizes, &keys, &[2, 0], &[0, 0]), Ok(Plan { height: 3, padded_height: 256 }));
+/// assert_eq!(plan(sizes, &keys, &[2, 0], &[0, 1]), Err(Refusal::OpenHold));
+/// // no instruction, and no key that counts
+/// assert_eq!(plan(sizes, &[AND, 3, 1, 5, 9, 9], &[2, 0], &[0, 0]), Ok(Plan { height: 3, padded_height: 256 }));
+/// assert_eq!(plan(sizes, &[AND, 3, 1, 5, 9, 9], &[2, 1], &[0, 0]), Err(Refusal::Stranger));
 /// ```
 pub fn plan(sizes: Sizes, keys: &[u64], multiplicities: &[u64], holds: &[u64]) -> Result<Plan, Refusal> {
     let mut answers = [0; 2];
@@ -410,18 +448,26 @@ pub fn refused_entry(sizes: Sizes, keys: &[u64], multiplicities: &[u64], holds: 
     Some((place, reason))
 }
 
-/// Reads a stored list of N entries: they replace the first N places, which have no hold then, `sizes.used` becomes N, and the answer is N. Later
-/// places keep their words and holds. Open holds do not keep a list from being replaced.
+/// Reads a stored list of N entries onto a list that has no key yet: they become its first N places, `sizes.used` becomes N, and the answer is N. At these
+/// places neither recorder has a hold then, and the other recorder's multiplicities are 0. Later places keep their words. A list with keys is refused
+/// as list full, and so is one with fewer than N places.
+///
+/// All entries are judged and take a place, those with multiplicity 0 too; [`write()`] would not write these again.
 ///
 /// The length of `bytes` tells the form: [`stored_bytes`](crate::stored_bytes) of N, as [`write()`] writes it, or the old length 8 + 21 N, with
 /// multiplicities of four bytes. A list that was read from the old form is written in the new one.
 ///
 /// ```
-/// use u32_table::{opcodes::AND, read, write, Sizes};
+/// use u32_table::{opcodes::AND, read, write, Refusal, Sizes};
 /// let old = [&[1, 0, 0, 0, 3, 0, 0, 0, 14, 3, 0, 0, 0, 0, 0, 0, 0, 1, 0, 0, 0, 0, 0, 0, 0][..], &[2, 0, 0, 0]].concat();
-/// let (mut sizes, mut keys, mut multiplicities, mut holds) = (Sizes { capacity: 1, used: 0 }, [0; 3], [0], [5]);
-/// assert_eq!(read(&old, &mut sizes, &mut keys, &mut multiplicities, &mut holds), Ok(1));
+/// let (mut sizes, mut keys) = (Sizes { capacity: 1, used: 0 }, [0; 3]);
+/// let (mut multiplicities, mut holds, mut other_multiplicities, mut other_holds) = ([5], [5], [5], [5]);
+/// let mut read_it = |bytes: &[u8]| {
+///     read(bytes, &mut sizes, &mut keys, &mut multiplicities, &mut holds, &mut other_multiplicities, &mut other_holds)
+/// };
+/// assert_eq!((read_it(&old), read_it(&old)), (Ok(1), Err(Refusal::ListFull)));
 /// assert_eq!((keys, multiplicities, holds), ([AND, 3, 1], [2], [0]));
+/// assert_eq!((other_multiplicities, other_holds), ([0], [0]));
 ///
 /// let mut new = [0; 33];
 /// assert_eq!(write(sizes, &keys, &multiplicities, &holds, &mut new), Ok(33));
@@ -436,12 +482,14 @@ pub fn refused_entry(sizes: Sizes, keys: &[u64], multiplicities: &[u64], holds: 
 /// refuses lists of the new length with torn.
 ///
 /// ```
-/// # use u32_table::{opcodes::AND, read, write, Sizes};
-/// let (mut sizes, mut keys, mut multiplicities, mut holds) = (Sizes { capacity: 1, used: 1 }, [AND, 3, 1], [(1 << 32) + 2], [0]);
+/// # fn main() -> Result<(), u32_table::Refusal> {
+/// # use u32_table::{opcodes::AND, write, List, Sizes};
 /// let mut bytes = [0; 33];
-/// assert_eq!(write(sizes, &keys, &multiplicities, &holds, &mut bytes), Ok(33));
-/// assert_eq!(read(&bytes[..29], &mut sizes, &mut keys, &mut multiplicities, &mut holds), Ok(1));
-/// assert_eq!(multiplicities, [2]);
+/// assert_eq!(write(Sizes { capacity: 1, used: 1 }, &[AND, 3, 1], &[(1 << 32) + 2], &[0], &mut bytes), Ok(33));
+/// assert_eq!(List::from_bytes(&bytes, 1)?.multiplicities(), [(1 << 32) + 2]);
+/// assert_eq!(List::from_bytes(&bytes[..29], 1)?.multiplicities(), [2]);
+/// # Ok(())
+/// # }
 /// ```
 ///
 /// Each operand is taken as it stands: a left operand of pow that is [`P`](crate::P) or more is refused as wide, so a list has one stored form.
@@ -455,35 +503,52 @@ pub fn read(
     keys: &mut [u64],
     multiplicities: &mut [u64],
     holds: &mut [u64],
+    other_multiplicities: &mut [u64],
+    other_holds: &mut [u64],
 ) -> Result<usize, Refusal> {
     let mut answers = [0];
-    done(sys::read(bytes, sizes.numbers(), keys, multiplicities, holds, &mut answers))?;
+    let other = [other_multiplicities, other_holds];
+    done(sys::read(bytes, sizes.numbers(), keys, multiplicities, holds, other, &mut answers))?;
     sizes.used = answers[0] as usize;
     Ok(sizes.used)
 }
 
-/// Writes a list as bytes from the start of `out`; the answer is how many, [`stored_bytes`](crate::stored_bytes) of the places used. Later
-/// bytes keep their values. The left operand of pow is written modulo [`P`](crate::P), so the list reads back reduced, and two words of one base
-/// are equal keys. Holds are not written, and a list with an open one is refused.
+/// Writes what a recorder has counted as bytes from the start of `out`; the answer is how many, [`stored_bytes`](crate::stored_bytes) of the keys with a
+/// multiplicity. Later bytes keep their values. The left operand of pow is written modulo [`P`](crate::P), so the list reads back reduced, and two words
+/// of one base are equal keys. Keys with multiplicity 0 are left out, as [`plan`] leaves them out. Holds are not written, and a list with an open one is
+/// refused.
 ///
-/// Refusals, in this order: shape; open hold; then entry by entry stranger, wide, bare log, count full; repeat; short.
+/// Refusals, in this order: shape; open hold; then, of keys with a multiplicity, entry by entry stranger, wide, bare log, count full; repeat, among them;
+/// short.
 ///
-/// It takes up to 52 KB of stack: see [the crate's page](crate#stack).
+/// It takes up to 190 KB of stack: see [the crate's page](crate#stack).
+///
+/// ```
+/// use u32_table::{opcodes::{AND, LT}, stored_bytes, write, Refusal, Sizes};
+/// let (sizes, keys) = (Sizes { capacity: 3, used: 3 }, [AND, 3, 1, LT, 2, 3, AND, 3, 1]);
+/// let mut out = [0; 58];
+/// assert_eq!(write(sizes, &keys, &[0, 4, 7], &[0; 3], &mut out), Ok(stored_bytes(2)));
+/// assert_eq!((out[0], out[8], out[25], out[42], out[50]), (2, LT as u8, AND as u8, 4, 7));
+/// assert_eq!(write(sizes, &keys, &[1, 4, 7], &[0; 3], &mut out), Err(Refusal::Repeat));
+/// ```
 pub fn write(sizes: Sizes, keys: &[u64], multiplicities: &[u64], holds: &[u64], out: &mut [u8]) -> Result<usize, Refusal> {
     let mut answers = [0];
     done(sys::write(sizes.numbers(), keys, multiplicities, holds, out, &mut answers))?;
     Ok(answers[0] as usize)
 }
 
-/// Fills a table with the sections of a list's entries, in list order; the answer is the height. Rows past it keep their words.
+/// Fills a table with the sections of what a recorder has counted, in list order; the answer is the height. Rows past it keep their words. Keys with
+/// multiplicity 0 have no section, as [`plan`] leaves them out.
 ///
-/// Refusals, in this order: shape; open hold; then entry by entry stranger, wide, bare log, count full; short.
+/// Refusals, in this order: shape; open hold; then, of keys with a multiplicity, entry by entry stranger, wide, bare log, count full; short.
+///
+/// It takes up to 140 KB of stack: see [the crate's page](crate#stack).
 ///
 /// ```
-/// use u32_table::{column, fill, opcodes::LT, Sizes, COLUMNS};
+/// use u32_table::{column, fill, opcodes::{AND, LT}, Sizes, COLUMNS};
 /// let mut table = [0; 4 * COLUMNS];
-/// assert_eq!(fill(Sizes { capacity: 1, used: 1 }, &[LT, 2, 3], &[1], &[0], &mut table), Ok(3));
-/// assert_eq!(table[column::RESULT], 1);
+/// assert_eq!(fill(Sizes { capacity: 2, used: 2 }, &[AND, 3, 1, LT, 2, 3], &[0, 1], &[0, 0], &mut table), Ok(3));
+/// assert_eq!((table[column::CI], table[column::RESULT]), (LT, 1));
 /// ```
 pub fn fill(sizes: Sizes, keys: &[u64], multiplicities: &[u64], holds: &[u64], table: &mut [u64]) -> Result<usize, Refusal> {
     let mut answers = [0];
@@ -571,9 +636,9 @@ pub fn check(table: &[u64], aux: &[u64], challenges: &[u64]) -> Result<Verdict, 
 /// The denominator is that of [`extend`], of the row with the request's operands, its opcode as CI and, as Result, what the instruction computes; 0 for
 /// split.
 ///
-/// Where all requests are recorded onto a list with no entries, at once or by [`hold`] and [`confirm`], none is refused, no hold is open at the end and
-/// no denominator of a key at a used place is (0, 0, 0), this is the last sum that [`fill`], [`pad`] and [`extend`] then make under the same challenges,
-/// with rows enough; and none of them refuses. Keys of dropped holds alone are at used places too.
+/// Where a recorder records all requests onto a list with no entries, at once or by [`hold`] and [`confirm`], none is refused, no hold of its own is open
+/// at the end and no denominator of a request is (0, 0, 0), this is the last sum that [`fill`], [`pad`] and [`extend`] then make for it under the same
+/// challenges, with rows enough; and none of them refuses. Keys that count nothing for it do not matter: those of dropped holds, and the other recorder's.
 ///
 /// Refusals, in this order: shape (requests are not three words each, challenges not fifteen); unreduced (challenges); then request by request
 /// stranger, wide, bare log, flat.

@@ -1,9 +1,9 @@
 //! The U32 table of Triton VM, proved: a safe interface to the static library that `rt staticlib u32_table` makes of the proved crates.
 //!
 //! The table holds every comparison, bitwise and, logarithm, power and bit count that a program made on 32-bit numbers, in rows that forty
-//! polynomials tie together. A [`List`] records them, at once or in two parts, and can be stored; a [`Table`] is filled from it, padded, extended and checked: the check finds
-//! the first polynomial that is not zero, or says that all are. When all are, each row that stands for an instruction tells the truth, whoever
-//! made the table.
+//! polynomials tie together. A [`List`] records them, at once or in two parts, for one [`Recorder`] or two that share its keys, and can be stored; a [`Table`]
+//! is filled from it, padded, extended and checked: the check finds the first polynomial that is not zero, or says that all are. When all are, each row
+//! that stands for an instruction tells the truth, whoever made the table.
 //!
 //! Every call takes any input at all: it does the work, or it answers a [`Refusal`] and has changed nothing. [`replay`] makes many steps: of it this is
 //! said of the refused step, and [`Stopped`] tells how many were done before it. The functions behind are
@@ -31,6 +31,8 @@
 //! # }
 //! ```
 //!
+//! A key whose count is 0, because its hold was dropped or only the other recorder counted it, is on the list and has no rows; it is not stored.
+//!
 //! [`client_sum`] is the other end of the lookup: the processor's sum over its requests, which equals the last sum of the table made of them.
 //!
 //! The fourteen calls stand here too as functions over slices, for arrays that a program has already; and [`batches`], which tries a batch size.
@@ -48,9 +50,9 @@
 //!
 //! # Stack
 //!
-//! [`read`] takes up to 120 KB of stack, [`write()`] 52 KB, [`fill`] 12 KB and every other call 2 KB (a KB is 1,000 bytes), and the methods of
-//! [`List`] and [`Table`] little more than the calls that they make. A thread of 160 KiB is enough for each (measured: one of 120 KiB is, one of
-//! 116 KiB is not). Where the stack is too small the program ends, as in all Rust.
+//! Four calls copy the entries of a list: [`write()`] takes up to 190 KB of stack for it, [`fill`] 140 KB, [`read`] 120 KB and [`plan`] 70 KB. Every other
+//! call takes 2 KB (a KB is 1,000 bytes), and the methods of [`List`] and [`Table`] little more than the calls that they make. A thread of 224 KiB is
+//! enough for each (measured: one of 184 KiB is, one of 180 KiB is not). Where the stack is too small the program ends, as in all Rust.
 //!
 //! # Linking
 //!
@@ -77,7 +79,7 @@ pub use calls::{
     check, client_sum, compare, confirm, drop_hold, extend, fill, hold, pad, plan, read, record, refused_entry, replay, write,
 };
 pub use calls::{Entry, Group, Plan, Sizes, Stopped, Verdict};
-pub use list::List;
+pub use list::{List, ListBy, ListOf, Recorder};
 pub use lookups::{byte_lookup, byte_sum, cascade_lookup, cascade_sum, look_up, Lookups};
 pub use opcode::Opcode;
 pub use refusal::Refusal;

@@ -59,12 +59,11 @@ macro_rules! refusals {
 }
 
 refusals! {
-    /// An array has the wrong length, or the sizes are out of range: keys are three words a place, multiplicities and holds one a place, used
-    /// is at most the capacity and that at most [`MAX_PLACES`](crate::MAX_PLACES); a table is whole rows, at most
-    /// [`MAX_ROWS`](crate::MAX_ROWS); aux is three words a row; challenges are fifteen words; a trace is three words a step, and
-    /// requests are three words each; in
-    /// [`batches`](crate::batches) the setting is from 1 to [`MAX_ROWS`](crate::MAX_ROWS), and jobs are at most [`MAX_JOBS`](crate::MAX_JOBS). Of the lookup tables see
-    /// [`look_up`](crate::look_up) and the two sums.
+    /// An array has the wrong length, or the sizes are out of range: keys are three words a place, multiplicities and holds of either recorder one a
+    /// place, used is at most the capacity and that at most [`MAX_PLACES`](crate::MAX_PLACES); a table is whole rows, at most
+    /// [`MAX_ROWS`](crate::MAX_ROWS); aux is three words a row; challenges are fifteen words; a trace is three words a step, and requests are three words
+    /// each; in [`batches`](crate::batches) the setting is from 1 to [`MAX_ROWS`](crate::MAX_ROWS), and jobs are at most
+    /// [`MAX_JOBS`](crate::MAX_JOBS). Of the lookup tables see [`look_up`](crate::look_up) and the two sums.
     1 Shape "shape",
     /// An opcode that is none of the six; in [`replay`](crate::replay), none of the ten.
     2 Stranger "stranger",
@@ -72,9 +71,10 @@ refusals! {
     3 Wide "wide",
     /// log_2_floor of 0.
     4 BareLog "bare log",
-    /// A multiplicity above [`P`](crate::P) − 1; in recording and holding, if the first equal key's count plus holds and one more would pass that.
+    /// A multiplicity above [`P`](crate::P) − 1; in recording and holding, if the first equal key's count plus holds and one more would pass that. Both
+    /// are those of the recorder who makes the call.
     5 CountFull "count full",
-    /// A new key and no unused place; in reading, more entries than places.
+    /// A new key and no unused place; in reading, more entries than places, or a list that has keys already.
     6 ListFull "list full",
     /// A table below the height, a filled count above the rows, a check of no rows, too few output bytes, fewer rows than an archive has, or fewer
     /// result places than batches.
@@ -87,7 +87,7 @@ refusals! {
     /// Stored bytes of neither of the two lengths, or more than [`MAX_PLACES`](crate::MAX_PLACES) entries in them; see [`read`](crate::read). An archive of
     /// another length than its row count says, or of more than [`MAX_ROWS`](crate::MAX_ROWS) rows; see [`restore`](crate::restore).
     10 Torn "torn",
-    /// Equal keys in stored bytes, or in a list to be written.
+    /// Equal keys in stored bytes, or among those with a multiplicity in a list to be written.
     11 Repeat "repeat",
     /// The stored height is not the sum of the entries' heights.
     12 Tally "tally",
@@ -95,9 +95,10 @@ refusals! {
     13 ZeroDivisor "zero divisor",
     /// A new value and no unused place in a cascade; see [`look_up`](crate::look_up).
     14 CascadeFull "cascade full",
-    /// A hold at a used place, in [`plan`](crate::plan), [`write`](crate::write()) and [`fill`](crate::fill).
+    /// A hold at a used place, of the recorder for whom it is, in [`plan`](crate::plan), [`write`](crate::write()) and [`fill`](crate::fill); also at the place
+    /// of a key with multiplicity 0.
     15 OpenHold "open hold",
-    /// A position that is not used, or has no hold, in [`confirm`](crate::confirm) and [`drop_hold`](crate::drop_hold).
+    /// A position that is not used, or where the recorder has no hold, in [`confirm`](crate::confirm) and [`drop_hold`](crate::drop_hold).
     16 NoHold "no hold",
     /// A job of more rows than the setting, in [`batches`](crate::batches).
     17 JobAbove "job above",

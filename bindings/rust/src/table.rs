@@ -1,4 +1,4 @@
-use crate::{calls, List, Refusal, Verdict, AUX_COLUMNS, COLUMNS, MAX_ROWS};
+use crate::{calls, ListOf, Refusal, Verdict, AUX_COLUMNS, COLUMNS, MAX_ROWS};
 
 /// A table and its sums, that owns its words and has as many rows as it needs.
 ///
@@ -47,11 +47,14 @@ impl Table {
         Ok(Table { aux: vec![0; filled * AUX_COLUMNS], words, filled })
     }
 
-    /// Becomes the sections of the list's entries on as many rows as the list's padded height; see [`fill`](crate::fill). Rows past the sections
-    /// and all sums are zero words. The answer is the height, the number of filled rows.
+    /// Becomes the sections of the list's entries that have a multiplicity, on as many rows as the list's padded height; see [`fill`](crate::fill). Rows past
+    /// the sections and all sums are zero words. The answer is the height, the number of filled rows.
     ///
-    /// Refusals: those of [`plan`](crate::plan), of which a [`List`] meets open hold alone.
-    pub fn fill(&mut self, list: &List) -> Result<usize, Refusal> {
+    /// `&list` means the first recorder's entries, [`list.of(recorder)`](crate::List::of) those of either one.
+    ///
+    /// Refusals: those of [`plan`](crate::plan), of which a [`List`](crate::List) meets open hold alone.
+    pub fn fill<'a>(&mut self, list: impl Into<ListOf<'a>>) -> Result<usize, Refusal> {
+        let list = list.into();
         let rows = list.plan()?.padded_height;
         let mut words = vec![0; rows * COLUMNS];
         let filled = list.fill(&mut words)?;

@@ -1,9 +1,9 @@
 //! The left operand of pow is any word and is taken modulo p, but in stored bytes, where it is below p.
 mod common;
 
-use common::{list_of, plain_result, tables_of, Random};
+use common::{lent, list_of, plain_result, tables_of, Random};
 use u32_table::opcodes::{AND, LOG_2_FLOOR, LT, POW};
-use u32_table::{check, compare, fill, plan, read, record, stored_bytes, write, Verdict};
+use u32_table::{check, compare, fill, plan, stored_bytes, write, Verdict};
 use u32_table::{Entry, Plan, Refusal, Sizes, COLUMNS, P};
 use Refusal::*;
 
@@ -15,9 +15,9 @@ fn pow(base: u64, exponent: u64) -> Entry {
 }
 
 /// An entry recorded onto a fresh list: its words there, or the reason.
-fn recorded(entry: Entry) -> Result<[u64; 3], Refusal> {
-    let (mut sizes, mut keys, mut counts) = (Sizes { capacity: 1, used: 0 }, [7; 3], [7]);
-    record(&mut sizes, &mut keys, &mut counts, &mut [0], entry).map(|_| keys)
+fn recorded(entry: Entry) -> Result<Vec<u64>, Refusal> {
+    let mut list = lent(1, &[]);
+    list.record(entry).map(|_| list.keys)
 }
 
 #[test]
@@ -25,7 +25,7 @@ fn bases_are_reduced() {
     for (base, exponent, due) in
         [(P - 1, 3, P - 1), (P, 3, 0), (P + 5, 2, 5), (u64::MAX, 0, WIDE - 2), (u64::MAX - 1, WIDE - 1, WIDE - 3), (0, 0, 0)]
     {
-        assert_eq!(recorded(pow(base, exponent)), Ok([POW, due, exponent]), "{base}");
+        assert_eq!(recorded(pow(base, exponent)), Ok(vec![POW, due, exponent]), "{base}");
     }
     for entry in
         [pow(u64::MAX, WIDE), pow(P, WIDE), pow(0, P), Entry::new(LT, 0, P), Entry::new(LT, P, 0), Entry::new(LOG_2_FLOOR, P, 0)]
@@ -37,11 +37,11 @@ fn bases_are_reduced() {
 
 #[test]
 fn two_words_of_one_base_are_one_key() {
-    let (mut sizes, mut keys, mut counts) = (Sizes { capacity: 3, used: 0 }, [7; 9], [7; 3]);
+    let mut list = lent(3, &[]);
     for (entry, place) in [(pow(P + 5, 2), 0), (pow(5, 2), 0), (pow(u64::MAX, 0), 1), (pow(WIDE - 2, 0), 1), (pow(P + 5, 3), 2)] {
-        assert_eq!(record(&mut sizes, &mut keys, &mut counts, &mut [0; 3], entry), Ok(place), "{entry:?}");
+        assert_eq!(list.record(entry), Ok(place), "{entry:?}");
     }
-    assert_eq!((keys, counts), ([POW, 5, 2, POW, WIDE - 2, 0, POW, 5, 3], [2, 2, 1]));
+    assert_eq!(list, lent(3, &[(POW, 5, 2, 2), (POW, WIDE - 2, 0, 2), (POW, 5, 3, 1)]));
     // comparing looks at the words
     assert!(compare(pow(P + 5, 2), pow(5, 2)).is_gt());
 }
@@ -49,17 +49,15 @@ fn two_words_of_one_base_are_one_key() {
 /// A word of p or more among the keys, put there by the caller.
 #[test]
 fn a_raw_key_counts_as_its_reduced_form() {
-    let (one, raw) = (Sizes { capacity: 1, used: 1 }, [POW, P + 5, 2]);
-    let (mut sizes, mut keys, mut counts) = (one, raw, [7]);
-    assert_eq!(record(&mut sizes, &mut keys, &mut counts, &mut [0], pow(5, 2)), Ok(0));
-    assert_eq!((sizes, keys, counts), (one, raw, [8]));
+    let mut raw = lent(1, &[(POW, P + 5, 2, 7)]);
+    assert_eq!(raw.record(pow(5, 2)), Ok(0));
+    assert_eq!(raw, lent(1, &[(POW, P + 5, 2, 8)]));
 
     let mut out = [9; 34];
-    assert_eq!(write(one, &raw, &[7], &[0], &mut out), Ok(33));
+    assert_eq!(raw.write(&mut out), Ok(33));
     assert_eq!(out[8..17], [30, 5, 0, 0, 0, 0, 0, 0, 0]);
-    let (mut sizes, mut keys, mut counts) = (Sizes { capacity: 1, used: 0 }, [0; 3], [0]);
-    assert_eq!(read(&out[..33], &mut sizes, &mut keys, &mut counts, &mut [0]), Ok(1));
-    assert_eq!((keys, counts), ([POW, 5, 2], [7]));
+    let mut read = lent(1, &[]);
+    assert_eq!((read.read(&out[..33]), read), (Ok(1), lent(1, &[(POW, 5, 2, 8)])));
 
     let (two, both) = (Sizes { capacity: 2, used: 2 }, [POW, P + 5, 2, POW, 5, 2]);
     let mut table = [9; 6 * COLUMNS];
@@ -70,7 +68,7 @@ fn a_raw_key_counts_as_its_reduced_form() {
         assert_eq!((row[4], row[6], row[8], row[9]), (5, 2, 25, count));
     }
     assert_eq!(write(two, &both, &[7, 1], &[0; 2], &mut [0; 58]), Err(Repeat));
-    assert_eq!(plan(one, &[POW, u64::MAX, WIDE - 1], &[1], &[0]), Ok(Plan { height: 33, padded_height: 256 }));
+    assert_eq!(lent(1, &[(POW, u64::MAX, WIDE - 1, 1)]).plan(), Ok((33, 256)));
 }
 
 /// In stored bytes the base is taken as it stands, entry by entry.
@@ -96,11 +94,9 @@ fn stored_bases_are_below_p() {
         (&[(5, 0, 0), (30, P, 0)], Err(Stranger)),
         (&[(30, 0, 0), (30, P, 0)], Err(Wide)),
     ] {
-        let (mut sizes, mut keys, mut counts) = (Sizes { capacity: 2, used: 0 }, [7; 6], [7; 2]);
-        assert_eq!(read(&stored(entries, 1), &mut sizes, &mut keys, &mut counts, &mut [0; 2]), due, "{entries:?}");
-        if due.is_err() {
-            assert_eq!((sizes.used, keys, counts), (0, [7; 6], [7; 2]));
-        }
+        let mut list = lent(2, &[]);
+        assert_eq!(list.read(&stored(entries, 1)), due, "{entries:?}");
+        assert!(due.is_ok() || list == lent(2, &[]));
     }
 }
 

@@ -1,9 +1,11 @@
 //! Damaged bytes and forged tables: what is wrong is refused or found, and nothing false passes.
 mod common;
 
-use common::{inverse, list_of, plain_result, tables_of, Random, Tables};
+use common::{inverse, lent, list_of, plain_result, tables_of, Random, Tables};
 use u32_table::opcodes::{ALL, AND, LOG_2_FLOOR, LT, POP_COUNT, POW, SPLIT};
-use u32_table::{check, column, extend, fill, Entry, Group, List, Refusal, Sizes, Verdict, AUX_COLUMNS, COLUMNS, P};
+use u32_table::{
+    check, column, extend, fill, stored_bytes, Entry, Group, List, Refusal, Sizes, Verdict, AUX_COLUMNS, COLUMNS, P,
+};
 
 #[test]
 fn a_false_comparison_is_found() {
@@ -92,28 +94,34 @@ fn damaged_bytes_are_refused_or_are_another_list() {
     let mut random = Random(12);
     let list = list_of(&(0..20).map(|_| random.entry()).collect::<Vec<_>>());
     let bytes = list.to_bytes().unwrap();
-    let (mut refused, mut read) = (0, 0);
+    let (mut refused, mut read, mut no_count) = (0, 0, 0);
     for place in 0..bytes.len() {
         for bit in 0..8 {
             let mut damaged = bytes.clone();
             damaged[place] ^= 1 << bit;
-            let mut to = list_of(&[Entry::new(AND, 1, 1)]);
-            let before = to.clone();
+            let mut to = lent(list.len(), &[]);
             match to.read(&damaged) {
                 Err(_) => {
                     refused += 1;
-                    assert_eq!((to.keys(), to.multiplicities()), (before.keys(), before.multiplicities()));
+                    assert_eq!(to, lent(list.len(), &[]));
                 }
                 Ok(n) => {
                     read += 1;
                     assert_eq!(n, list.len());
+                    let to = List::from_bytes(&damaged, n).unwrap();
                     assert_ne!(to, list);
-                    assert_eq!(to.to_bytes().unwrap(), damaged);
+                    // a key whose count became 0 is read, and not written again
+                    let counted = to.entries().filter(|(_, count)| *count > 0).count();
+                    no_count += n - counted;
+                    let again = to.to_bytes().unwrap();
+                    assert_eq!(again.len(), stored_bytes(counted));
+                    assert_eq!(again == damaged, counted == n);
                 }
             }
         }
     }
     assert!(refused > 500 && read > 500, "{refused} refused, {read} read");
+    assert_eq!(no_count, list.entries().filter(|(_, count)| count.is_power_of_two()).count());
     // cut: torn, but for the old length, where it is another list
     let old_length = 8 + 21 * list.len();
     for length in (0..bytes.len()).filter(|length| *length != old_length) {

@@ -2,10 +2,9 @@
 //! a key's multiplicity is the number of its accepted confirms and recordings.
 mod common;
 
-use common::{lent, step_entries, tables_of, Lent, Random};
+use common::{lent, make, tables_of, Lent, Model, Random};
 use std::collections::BTreeMap;
-use u32_table::opcodes::{ALL, AND, LOG_2_FLOOR, LT, POW, SPLIT};
-use u32_table::steps::DIV_MOD;
+use u32_table::opcodes::{AND, LOG_2_FLOOR, LT, POW, SPLIT};
 use u32_table::{check, client_sum, refused_entry, stored_bytes, Entry, List, Refusal, Stopped, Table, Verdict, COLUMNS, P};
 use Refusal::*;
 
@@ -180,47 +179,50 @@ fn reading_clears_the_holds_of_its_places() {
         list.record(entry).unwrap();
         list.to_bytes().unwrap()
     });
-    for used in 0..=3 {
-        let mut list = lent(3, &[(5, 0, 0, 9); 3][..used]);
-        list.holds = vec![4; 3];
-        assert_eq!(list.read(&bytes[0]), Ok(1));
-        assert_eq!(list.holds, [0, 4, 4]);
-        assert_eq!(list.keys[..3], [AND, 3, 1]);
+    let mut list = lent(3, &[]);
+    assert_eq!((list.read(&bytes[0]), &list.holds[..]), (Ok(1), &[0, 5, 5][..]));
+    assert_eq!(list, lent(3, &[(AND, 3, 1, 1)]));
+    // onto a list with keys nothing is read, held or not; refused, it clears no hold
+    for holds in [0, 1] {
+        let mut list = one(1, holds);
+        assert_eq!((list.read(&bytes[1][..32]), list.read(&bytes[1])), (Err(Torn), Err(ListFull)));
+        assert_eq!(list, one(1, holds));
     }
-    // it is not refused by a hold; refused by another reason it clears none
-    let mut list = one(1, 1);
-    assert_eq!((list.read(&bytes[0][..32]), &list), (Err(Torn), &one(1, 1)));
-    assert_eq!((list.read(&bytes[0]), &list), (Ok(1), &one(1, 0)));
     let mut none = lent(2, &[]);
+    assert_eq!((none.read(&bytes[0][..32]), &none), (Err(Torn), &lent(2, &[])));
     assert_eq!((none.read(&[0; 8]), none), (Ok(0), lent(2, &[])));
 }
 
-/// "A key dropped back to 0 keeps its place and gets a section with multiplicity 0."
+/// "A key dropped to 0 has no section any more", and keeps its place.
 #[test]
-fn a_dropped_key_has_a_section() {
+fn a_dropped_key_has_no_section() {
     let mut list = lent(2, &[]);
-    assert_eq!((list.hold(AND_3_1), list.drop_hold(0), list.plan()), (Ok(0), Ok(()), Ok((3, 256))));
+    assert_eq!((list.hold(AND_3_1), list.drop_hold(0), list.plan()), (Ok(0), Ok(()), Ok((0, 256))));
     assert_eq!(list, lent(2, &[(AND, 3, 1, 0)]));
-    let mut list = List::new(2).unwrap();
-    assert_eq!((list.hold(AND_3_1), list.drop_hold(0)), (Ok(0), Ok(())));
+    let mut table = [9; COLUMNS];
+    assert_eq!((list.fill(&mut []), list.fill(&mut table), table), (Ok(0), Ok(0), [9; COLUMNS]));
+    // it counts nothing between two that count
+    let mut list = List::new(3).unwrap();
+    assert_eq!((list.record(LT_2_3), list.hold(AND_3_1), list.record(Entry::new(AND, 0, 0))), (Ok(0), Ok(1), Ok(2)));
+    assert_eq!(list.drop_hold(1), Ok(()));
     let challenges = Random(3).challenges();
     let made = tables_of(&list, &challenges);
-    assert_eq!(
-        (made.height, made.sum, &made.table[..10]),
-        (3, [0; 3], &[1, 0, 15651782846776010939, AND, 3, made.table[5], 1, 1, 1, 0][..])
-    );
+    assert_eq!((made.height, made.table[3], made.table[3 * COLUMNS + 3], made.table[3 * COLUMNS]), (4, LT, AND, 1));
+    assert_eq!(client_sum(&[LT, 2, 3, AND, 0, 0], &challenges), Ok(made.sum));
     assert_eq!(check(&made.table, &made.aux, &challenges), Ok(Verdict::Zero));
-    // and it is stored, and found again
+    // it is not stored; its place is kept here, and another one is found when it is read back
     let bytes = list.to_bytes().unwrap();
-    assert_eq!(bytes.len(), stored_bytes(1));
-    let mut back = List::from_bytes(&bytes, 2).unwrap();
-    assert_eq!((back == list, back.record(AND_3_1), back.len()), (true, Ok(0), 1));
-    // such a key counts where no denominator may be zero: the client asked for nothing
+    assert_eq!(bytes.len(), stored_bytes(2));
+    let mut back = List::from_bytes(&bytes, 3).unwrap();
+    assert_eq!((list.record(AND_3_1), back.record(AND_3_1), back.len()), (Ok(1), Ok(2), 3));
+    // nor does it matter that its denominator is zero: the client asked for nothing
     let mut list = List::new(1).unwrap();
     assert_eq!((list.hold(Entry::new(AND, 0, 0)), list.drop_hold(0)), (Ok(0), Ok(())));
     let mut table = Table::new();
-    assert_eq!((table.fill(&list), table.pad()), (Ok(1), Ok(())));
-    assert_eq!((client_sum(&[], &[0; 15]), table.extend(&[0; 15])), (Ok([0; 3]), Err(Flat)));
+    assert_eq!((table.fill(&list), table.pad()), (Ok(0), Ok(())));
+    assert_eq!((client_sum(&[], &[0; 15]), table.extend(&[0; 15])), (Ok([0; 3]), Ok([0; 3])));
+    assert_eq!(list.record(Entry::new(AND, 0, 0)), Ok(0));
+    assert_eq!((table.fill(&list), table.pad(), table.extend(&[0; 15])), (Ok(1), Ok(()), Err(Flat)));
 }
 
 #[test]
@@ -244,133 +246,6 @@ fn a_list_owns_its_holds() {
 
 // ---- random calls
 
-/// A list as a model has it: the entries of its used places with their counts and holds; the other places have their words.
-#[derive(Clone)]
-struct Model {
-    capacity: usize,
-    places: Vec<(Entry, u64, u64)>,
-    /// what the accepted calls counted
-    counted: Vec<Entry>,
-}
-
-/// The entry as it is looked for and stored, or the reason.
-fn admitted(e: Entry) -> Result<Entry, Refusal> {
-    if !ALL.contains(&e.opcode) {
-        return Err(Stranger);
-    }
-    if e.right_operand >= WIDE || (e.opcode != POW && e.left_operand >= WIDE) {
-        return Err(Wide);
-    }
-    if e.opcode == LOG_2_FLOOR && e.left_operand == 0 {
-        return Err(BareLog);
-    }
-    Ok(if e.opcode == POW { Entry::new(POW, e.left_operand % P, e.right_operand) } else { e })
-}
-
-impl Model {
-    fn gain(&mut self, entry: Entry, count: u64, holds: u64) -> Result<usize, Refusal> {
-        let key = admitted(entry)?;
-        let at = match self.places.iter().position(|(e, ..)| admitted(*e) == Ok(key)) {
-            Some(at) if u128::from(self.places[at].1) + u128::from(self.places[at].2) + 1 > u128::from(MOST) => {
-                return Err(CountFull)
-            }
-            Some(at) => at,
-            None if self.places.len() == self.capacity => return Err(ListFull),
-            None => {
-                self.places.push((key, 0, 0));
-                self.places.len() - 1
-            }
-        };
-        self.places[at].1 += count;
-        self.places[at].2 += holds;
-        self.counted.extend((count == 1).then_some(key));
-        Ok(at)
-    }
-
-    fn confirm(&mut self, position: usize) -> Result<(), Refusal> {
-        let (key, count, holds) = self.places.get_mut(position).filter(|place| place.2 > 0).ok_or(NoHold)?;
-        if *count >= MOST {
-            return Err(CountFull);
-        }
-        (*count, *holds) = (*count + 1, *holds - 1);
-        self.counted.push(admitted(*key).unwrap_or(*key));
-        Ok(())
-    }
-
-    fn drop_hold(&mut self, position: usize) -> Result<(), Refusal> {
-        self.places.get_mut(position).filter(|place| place.2 > 0).ok_or(NoHold)?.2 -= 1;
-        Ok(())
-    }
-
-    fn replay(&mut self, trace: &[u64]) -> Result<usize, Stopped> {
-        for (done, step) in trace.chunks(3).enumerate() {
-            let mut next = self.clone();
-            let entries = step_entries([step[0], step[1], step[2]]);
-            let made = entries.and_then(|es| es.into_iter().try_for_each(|e| next.gain(e, 1, 0).map(|_| ())));
-            made.map_err(|refusal| Stopped { refusal, done })?;
-            *self = next;
-        }
-        Ok(trace.len() / 3)
-    }
-
-    /// The words of these places in the arrays that were lent.
-    fn laid(&self, mut list: Lent) -> Lent {
-        list.sizes.used = self.places.len();
-        for (i, (e, count, holds)) in self.places.iter().enumerate() {
-            list.keys[3 * i..3 * i + 3].copy_from_slice(&[e.opcode, e.left_operand, e.right_operand]);
-            (list.multiplicities[i], list.holds[i]) = (*count, *holds);
-        }
-        list
-    }
-
-    /// One call, made of both; what was answered, as a number.
-    fn call(&mut self, list: &mut Lent, random: &mut Random) -> u64 {
-        let entry = match random.below(12) {
-            0 => Entry::new(POW, [5, P + 5, P - 1, u64::MAX][random.below(4) as usize], random.below(2)),
-            1 => Entry::new(random.below(40), random.word(), random.below(3)),
-            2 => Entry::new(LOG_2_FLOOR, random.below(2), 0),
-            _ => Entry::new([AND, LT, SPLIT][random.below(3) as usize], random.below(3), 1 + random.below(2)),
-        };
-        let position = match random.below(8) {
-            0 => random.word() as usize,
-            _ => random.below(self.capacity as u64 + 2) as usize,
-        };
-        let number = |answer: Result<(), Refusal>| answer.map_or_else(|refusal| refusal.number(), |()| 0);
-        match random.below(9) {
-            0 | 1 => {
-                let answers = (list.record(entry), self.gain(entry, 1, 0));
-                assert_eq!(answers.0, answers.1, "record {entry:?}");
-                number(answers.0.map(|_| ()))
-            }
-            2..=4 => {
-                let answers = (list.hold(entry), self.gain(entry, 0, 1));
-                assert_eq!(answers.0, answers.1, "hold {entry:?}");
-                number(answers.0.map(|_| ()))
-            }
-            5 | 6 => {
-                let answers = (list.confirm(position), self.confirm(position));
-                assert_eq!(answers.0, answers.1, "confirm {position}");
-                number(answers.0)
-            }
-            7 => {
-                let answers = (list.drop_hold(position), self.drop_hold(position));
-                assert_eq!(answers.0, answers.1, "drop {position}");
-                number(answers.0)
-            }
-            _ => {
-                let mut trace = vec![];
-                for _ in 0..random.below(4) {
-                    let opcode = [AND, LT, DIV_MOD, DIV_MOD, SPLIT, SPLIT, 99][random.below(7) as usize];
-                    trace.extend([opcode, random.below(3), random.below(3)]);
-                }
-                let answers = (list.replay(&trace), self.replay(&trace));
-                assert_eq!(answers.0, answers.1, "replay {trace:?}");
-                number(answers.0.map(|_| ()).map_err(|stopped| stopped.refusal))
-            }
-        }
-    }
-}
-
 /// From a fresh list, with any words in its arrays: every answer and every word, and the law after each call.
 #[test]
 fn a_keys_multiplicity_is_the_number_of_its_accepted_confirms_and_recordings() {
@@ -379,14 +254,17 @@ fn a_keys_multiplicity_is_the_number_of_its_accepted_confirms_and_recordings() {
     for _ in 0..3000 {
         let capacity = random.below(6) as usize;
         let mut list = lent(capacity, &[]);
-        list.keys.iter_mut().chain(&mut list.multiplicities).chain(&mut list.holds).for_each(|word| *word = random.word());
+        let words = list.keys.iter_mut().chain(&mut list.multiplicities).chain(&mut list.holds);
+        words.chain(&mut list.other_multiplicities).chain(&mut list.other_holds).for_each(|word| *word = random.word());
         let fresh = list.clone();
-        let mut model = Model { capacity, places: vec![], counted: vec![] };
+        let mut model = Model::new(capacity, vec![]);
         for _ in 0..random.below(40) {
-            met[model.call(&mut list, &mut random) as usize] += 1;
-            assert_eq!(list, model.laid(fresh.clone()));
+            let call = random.call(capacity);
+            let answers = [make!(list, &call), make!(model, &call)];
+            assert_eq!((answers[0], &list), (answers[1], &model.laid(fresh.clone())), "{call:?}");
+            met[answers[0].0 as usize] += 1;
             let mut times = BTreeMap::new();
-            model.counted.iter().for_each(|e| *times.entry(*e).or_insert(0) += 1);
+            model.counted[0].iter().for_each(|e| *times.entry(*e).or_insert(0) += 1);
             for (i, key) in list.keys.chunks(3).take(list.sizes.used).enumerate() {
                 let times = times.remove(&Entry::new(key[0], key[1], key[2])).unwrap_or(0);
                 assert_eq!(list.multiplicities[i], times);
@@ -399,12 +277,13 @@ fn a_keys_multiplicity_is_the_number_of_its_accepted_confirms_and_recordings() {
         while let Some(i) = list.holds[..list.sizes.used].iter().position(|holds| *holds > 0) {
             assert_eq!((list.drop_hold(i), model.drop_hold(i)), (Ok(()), Ok(())));
         }
-        let mut out = vec![0; stored_bytes(list.sizes.used)];
+        let counted = list.multiplicities[..list.sizes.used].iter().filter(|count| **count > 0).count();
+        let mut out = vec![0; stored_bytes(counted)];
         assert_eq!(list.write(&mut out), Ok(out.len()));
-        let stored = List::from_bytes(&out, capacity).unwrap();
+        let stored = List::from_bytes(&out, counted).unwrap();
         let challenges = random.challenges();
         let made = tables_of(&stored, &challenges);
-        let requests: Vec<u64> = model.counted.iter().flat_map(|e| [e.opcode, e.left_operand, e.right_operand]).collect();
+        let requests: Vec<u64> = model.counted[0].iter().flat_map(|e| [e.opcode, e.left_operand, e.right_operand]).collect();
         assert_eq!(client_sum(&requests, &challenges), Ok(made.sum));
         assert_eq!(check(&made.table, &made.aux, &challenges), Ok(Verdict::Zero));
     }
@@ -437,11 +316,14 @@ fn any_list() {
         let mut list = lent(capacity, &entries);
         counts.iter().enumerate().for_each(|(i, [_, holds])| list.holds[i] = *holds);
         let before = list.clone();
-        let places = entries.iter().zip(&counts).map(|(e, [count, holds])| (Entry::new(e.0, e.1, e.2), *count, *holds)).collect();
-        let mut model = Model { capacity, places, counted: vec![] };
+        let places =
+            entries.iter().zip(&counts).map(|(e, [count, holds])| (Entry::new(e.0, e.1, e.2), [(*count, *holds), (0, 0)]));
+        let mut model = Model::new(capacity, places.collect());
         for _ in 0..6 {
-            met[model.call(&mut list, &mut random) as usize] += 1;
-            assert_eq!(list, model.laid(before.clone()));
+            let call = random.call(capacity);
+            let answers = [make!(list, &call), make!(model, &call)];
+            assert_eq!((answers[0], &list), (answers[1], &model.laid(before.clone())), "{call:?}");
+            met[answers[0].0 as usize] += 1;
         }
     }
     assert!([0, 2, 3, 4, 5, 6, 13, 16].iter().all(|number| met[*number] > 20), "{met:?}");

@@ -1,10 +1,10 @@
 //! Honest input: recording, storing, and tables that the check finds zero.
 mod common;
 
-use common::{height, list_of, plain_result, tables_of, Random};
+use common::{height, lent, list_of, plain_result, tables_of, Random};
 use std::cmp::Ordering;
 use u32_table::opcodes::{AND, LT, POP_COUNT, POW};
-use u32_table::{check, column, compare, stored_bytes, Entry, List, Verdict, AUX_COLUMNS, COLUMNS, P};
+use u32_table::{check, column, compare, stored_bytes, Entry, List, Refusal, Verdict, AUX_COLUMNS, COLUMNS, P};
 
 #[test]
 fn the_printed_example() {
@@ -69,16 +69,17 @@ fn a_stored_list_reads_back_and_writes_the_same_bytes() {
         assert_eq!(back, list);
         assert_eq!(back.to_bytes().unwrap(), bytes);
 
-        // a longer buffer keeps its other bytes, a fuller list its other places
+        // a longer buffer keeps its other bytes, a list its other places; and onto one with keys nothing is read
         let mut longer = vec![0xaa; bytes.len() + 9];
         assert_eq!(list.write(&mut longer), Ok(bytes.len()));
         assert_eq!(longer[..bytes.len()], bytes);
         assert!(longer[bytes.len()..].iter().all(|b| *b == 0xaa));
-        let mut other = list_of(&(0..400).map(|_| random.entry()).collect::<Vec<_>>());
-        let before = other.keys().to_vec();
-        assert_eq!(other.read(&bytes), Ok(list.len()));
-        assert_eq!(other, list);
-        assert_eq!(other.keys()[3 * list.len()..], before[3 * list.len()..]);
+        let entries: Vec<_> = list.entries().map(|(e, count)| (e.opcode, e.left_operand, e.right_operand, count)).collect();
+        let mut to = lent(list.len() + 3, &[]);
+        assert_eq!((to.read(&bytes), to), (Ok(list.len()), lent(list.len() + 3, &entries)));
+        let mut other = list_of(&[random.entry()]);
+        let before = other.clone();
+        assert_eq!((other.read(&bytes), other), (Err(Refusal::ListFull), before));
     }
 }
 

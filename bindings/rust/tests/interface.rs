@@ -3,7 +3,7 @@ mod common;
 
 use common::{list_of, tables_of, Random};
 use std::thread;
-use u32_table::{opcodes, stored_bytes, Entry, List, Opcode, Refusal, Table, Verdict, COLUMNS, MAX_PLACES, MAX_ROWS};
+use u32_table::{opcodes, stored_bytes, Entry, List, Opcode, Recorder, Refusal, Table, Verdict, COLUMNS, MAX_PLACES, MAX_ROWS};
 
 #[test]
 fn opcodes_and_words_are_recorded_alike() {
@@ -66,6 +66,18 @@ fn lists_are_equal_by_their_entries() {
     assert_ne!(small, large);
     assert_ne!(small, list_of(&[Opcode::Lt.entry(2, 3), Opcode::And.entry(3, 1)]));
     assert_eq!(List::new(0), List::new(7));
+    // by those of both recorders, and by their open holds
+    for recorder in Recorder::BOTH {
+        let [mut recorded, mut held] = [small.clone(), small.clone()];
+        recorded.by(recorder).record(Opcode::Lt.entry(2, 3)).unwrap();
+        held.by(recorder).hold(Opcode::Lt.entry(2, 3)).unwrap();
+        assert!(small != recorded && small != held && recorded != held, "{recorder:?}");
+        held.by(recorder).drop_hold(1).unwrap();
+        assert_eq!(small, held);
+    }
+    let mut second = List::new(2).unwrap();
+    second.by(Recorder::Second).read(&bytes).unwrap();
+    assert_ne!(small, second);
 }
 
 #[test]
@@ -79,7 +91,7 @@ fn no_number_is_too_large() {
 
 /// The need that the documentation states, with a full list.
 #[test]
-fn a_stack_of_160_kib_is_enough() {
+fn a_stack_of_224_kib_is_enough() {
     let full: Vec<Entry> = (0..MAX_PLACES as u64).map(|i| Opcode::PopCount.entry(u64::from(u32::MAX) - i, i)).collect();
     let work = move || {
         let list = list_of(&full);
@@ -91,5 +103,5 @@ fn a_stack_of_160_kib_is_enough() {
         table.extend(&[1; 15]).unwrap();
         assert_eq!(table.check(&[1; 15]), Ok(Verdict::Zero));
     };
-    thread::Builder::new().stack_size(160 * 1024).spawn(work).unwrap().join().unwrap();
+    thread::Builder::new().stack_size(224 * 1024).spawn(work).unwrap().join().unwrap();
 }

@@ -1,9 +1,9 @@
 //! Multiplicities up to p − 1, and stored lists of both lengths.
 mod common;
 
-use common::{height, list_of, Random};
+use common::{height, lent, list_of, Random};
 use u32_table::opcodes::{AND, LOG_2_FLOOR, LT, POW};
-use u32_table::{check, column, extend, fill, pad, plan, read, record, stored_bytes, write};
+use u32_table::{check, column, extend, fill, pad, plan, stored_bytes, write};
 use u32_table::{Entry, List, Plan, Refusal, Sizes, Verdict, AUX_COLUMNS, COLUMNS, MAX_PLACES, P};
 use Refusal::*;
 
@@ -25,11 +25,12 @@ fn stored(entries: &[(Entry, u64)], width: usize) -> Vec<u8> {
 
 /// Reads onto so many places: the list, or the reason, with nothing changed.
 fn list_read(bytes: &[u8], capacity: usize) -> Result<Vec<(Entry, u64)>, Refusal> {
-    let (mut sizes, mut keys, mut counts) = (Sizes { capacity, used: 0 }, vec![7; 3 * capacity], vec![7; capacity]);
-    let answer = read(bytes, &mut sizes, &mut keys, &mut counts, &mut vec![0; capacity]);
+    let mut list = lent(capacity, &[]);
+    let answer = list.read(bytes);
     let n = answer.unwrap_or(0);
-    assert!(sizes == Sizes { capacity, used: n } && keys[3 * n..].iter().chain(&counts[n..]).all(|word| *word == 7));
-    answer.map(|_| keys.chunks(3).zip(counts).take(n).map(|(k, count)| (Entry::new(k[0], k[1], k[2]), count)).collect())
+    let entries: Vec<_> = list.keys.chunks(3).zip(&list.multiplicities).take(n).map(|(k, n)| (k[0], k[1], k[2], *n)).collect();
+    assert_eq!(list, lent(capacity, &entries));
+    answer.map(|_| entries.into_iter().map(|(opcode, left, right, n)| (Entry::new(opcode, left, right), n)).collect())
 }
 
 #[test]
@@ -42,9 +43,9 @@ fn recordings_count_to_the_limit() {
         (P, Err(CountFull)),
         (u64::MAX, Err(CountFull)),
     ] {
-        let (mut sizes, mut keys, mut counts) = (ONE, AND_3_1, [count]);
-        assert_eq!(record(&mut sizes, &mut keys, &mut counts, &mut [0], Entry::new(AND, 3, 1)), due.map(|_| 0), "{count}");
-        assert_eq!((sizes, keys, counts), (ONE, AND_3_1, [due.unwrap_or(count)]));
+        let mut list = lent(1, &[(AND, 3, 1, count)]);
+        assert_eq!(list.record(Entry::new(AND, 3, 1)), due.map(|_| 0), "{count}");
+        assert_eq!(list, lent(1, &[(AND, 3, 1, due.unwrap_or(count))]));
     }
 }
 
@@ -95,7 +96,7 @@ fn old_lists_are_read_and_written_anew() {
     let mut random = Random(9);
     for n in [1, 2, 17, 300, MAX_PLACES] {
         let entries: Vec<Entry> = (0..n).map(|i| Entry::new(LT, i as u64, random.operand())).collect();
-        let list: Vec<(Entry, u64)> = entries.iter().map(|e| (*e, random.operand())).collect();
+        let list: Vec<(Entry, u64)> = entries.iter().map(|e| (*e, random.operand().max(1))).collect();
         let (old, new) = (stored(&list, 4), stored(&list, 8));
         assert_eq!((old.len(), new.len()), (8 + 21 * n, stored_bytes(n)));
         let [from_old, from_new] = [&old, &new].map(|bytes| List::from_bytes(bytes, MAX_PLACES).unwrap());
@@ -115,7 +116,7 @@ fn large_counts_read_back() {
     let mut random = Random(10);
     for _ in 0..200 {
         let n = 1 + random.below(6);
-        let list: Vec<(Entry, u64)> = (0..n).map(|i| (Entry::new(POW, random.below(P), i), random.below(P))).collect();
+        let list: Vec<(Entry, u64)> = (0..n).map(|i| (Entry::new(POW, random.below(P), i), 1 + random.below(P - 1))).collect();
         let bytes = stored(&list, 8);
         assert_eq!(list_read(&bytes, n as usize), Ok(list));
         assert_eq!(List::from_bytes(&bytes, MAX_PLACES).unwrap().to_bytes(), Ok(bytes));

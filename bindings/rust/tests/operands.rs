@@ -1,9 +1,9 @@
 //! A stored operand is the sum of byte i times 256^i over its eight bytes, and no other byte counts.
 mod common;
 
-use common::{height, Random};
+use common::{height, lent, Random};
 use u32_table::opcodes::{AND, POW};
-use u32_table::{read, Entry, Refusal, Sizes, P};
+use u32_table::{Entry, Refusal, P};
 use Refusal::*;
 
 /// The bytes of a stored list of these entries: opcode, LHS and RHS each, all with this multiplicity, of four bytes or of eight.
@@ -20,13 +20,13 @@ fn stored(entries: &[(u8, [u8; 8], [u8; 8])], height: usize, multiplicity: &[u8]
 
 /// Reads a list of n entries: the words of its keys, or the reason. The multiplicities are compared.
 fn keys_read(bytes: &[u8], n: usize, multiplicity: u64) -> Result<Vec<u64>, Refusal> {
-    let (mut sizes, mut keys, mut multiplicities) = (Sizes { capacity: n, used: 0 }, vec![7; 3 * n], vec![7; n]);
-    let answer = read(bytes, &mut sizes, &mut keys, &mut multiplicities, &mut vec![0; n]);
+    let mut list = lent(n, &[]);
+    let answer = list.read(bytes);
     match answer {
-        Ok(used) => assert_eq!((used, sizes.used, &multiplicities), (n, n, &vec![multiplicity; n])),
-        Err(_) => assert!(keys.iter().chain(&multiplicities).all(|word| *word == 7)),
+        Ok(used) => assert_eq!((used, list.sizes.used, &list.multiplicities), (n, n, &vec![multiplicity; n])),
+        Err(_) => assert_eq!(list, lent(n, &[])),
     }
-    answer.map(|_| keys)
+    answer.map(|_| list.keys)
 }
 
 /// The base of pow that is read from these bytes. The opcode stands before them; after them, in RHS and the multiplicity, stand `others`.

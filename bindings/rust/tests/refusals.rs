@@ -4,7 +4,9 @@ mod common;
 use common::{lent, list_of, tables_of, Lent, Random};
 use std::collections::BTreeSet;
 use u32_table::opcodes::{AND, LOG_2_FLOOR, LT, POW, SPLIT};
-use u32_table::{check, extend, fill, pad, plan, refused_entry, Entry, List, Refusal, Sizes, Verdict, COLUMNS, MAX_ROWS, P};
+use u32_table::{
+    check, column, extend, fill, pad, plan, refused_entry, Entry, List, Refusal, Sizes, Verdict, COLUMNS, MAX_ROWS, P,
+};
 use Refusal::*;
 
 const WIDE: u64 = 1 << 32;
@@ -36,11 +38,14 @@ fn record_refuses() {
     let fine = lent(2, &[(AND, 3, 1, 2)]);
     let full = lent(1, &[(AND, 3, 1, MOST_COUNT)]);
     let shapes = {
-        let mut bad = [fine.clone(), fine.clone(), fine.clone(), fine.clone(), lent(2049, &[])];
+        let mut bad = [(); 7].map(|()| fine.clone());
         bad[0].sizes.used = 3;
         bad[1].keys.pop();
         bad[2].multiplicities.push(0);
         bad[3].holds.pop();
+        bad[4].other_multiplicities.pop();
+        bad[5].other_holds.push(0);
+        bad[6] = lent(2049, &[]);
         bad
     };
     let mut cases: Vec<(Lent, Entry, Refusal)> = shapes.into_iter().map(|l| (l, Entry::new(99, WIDE, WIDE), Shape)).collect();
@@ -70,8 +75,8 @@ fn refused_lists() -> Vec<(Lent, Refusal)> {
         (lent(4, &[fine, (5, WIDE, 0, P)]), Stranger),
         (lent(4, &[fine, (SPLIT, WIDE, 0, P)]), Wide),
         (lent(4, &[fine, (LOG_2_FLOOR, 0, 0, P)]), BareLog),
-        (lent(4, &[fine, (LT, 1, 1, P), (5, 0, 0, 0)]), CountFull),
-        (lent(4, &[fine, (LT, 1, 1, u64::MAX), (5, 0, 0, 0)]), CountFull),
+        (lent(4, &[fine, (LT, 1, 1, P), (5, 0, 0, 1)]), CountFull),
+        (lent(4, &[fine, (LT, 1, 1, u64::MAX), (5, 0, 0, 1)]), CountFull),
     ];
     // 15 before 2 to 5, of whichever place; 1 before it
     let mut held = lent(4, &[(5, WIDE, 0, P), fine]);
@@ -79,7 +84,7 @@ fn refused_lists() -> Vec<(Lent, Refusal)> {
     list.push((held.clone(), OpenHold));
     held.holds.push(0);
     list.push((held, Shape));
-    let mut shape = lent(4, &[(5, 0, 0, 0)]);
+    let mut shape = lent(4, &[(5, 0, 0, 1)]);
     shape.keys.push(0);
     list.push((shape, Shape));
     list
@@ -96,8 +101,8 @@ fn plan_fill_and_write_refuse() {
         assert_eq!(entry, if reason == Shape { None } else { Some((1, reason)) });
         assert!(table.iter().all(|w| *w == 3) && out.iter().all(|b| *b == 5));
     }
-    // a multiplicity of 0 and repeated keys are filled; only writing refuses the repeat, before the room
-    let repeated = lent(3, &[(AND, 3, 1, 0), (LT, 0, 0, 1), (AND, 3, 1, 9)]);
+    // repeated keys are filled; only writing refuses the repeat, before the room
+    let repeated = lent(4, &[(AND, 3, 1, 2), (LT, 0, 0, 1), (AND, 3, 1, 9), (5, WIDE, WIDE, 0)]);
     let mut table = vec![3; 7 * COLUMNS];
     assert_eq!(repeated.plan(), Ok((7, 256)));
     assert_eq!(repeated.fill(&mut table[..6 * COLUMNS]), Err(Short));
@@ -107,12 +112,20 @@ fn plan_fill_and_write_refuse() {
     let mut out = [5; 58];
     assert_eq!(lent(2, &[(AND, 3, 1, 1), (LT, 0, 0, 1)]).write(&mut out[..57]), Err(Short));
     assert_eq!(out, [5; 58]);
+    // a key with multiplicity 0 is left out: it takes no row and no byte, repeats no other, and nothing is asked of it
+    let left_out = lent(4, &[(AND, 3, 1, 0), (LT, 0, 0, 1), (AND, 3, 1, 9), (5, WIDE, WIDE, 0)]);
+    assert_eq!((left_out.plan(), left_out.fill(&mut table[..3 * COLUMNS])), (Ok((4, 256)), Err(Short)));
+    assert_eq!((left_out.fill(&mut table[..4 * COLUMNS]), left_out.write(&mut out[..57])), (Ok(4), Err(Short)));
+    assert_eq!(refused_entry(left_out.sizes, &left_out.keys, &left_out.multiplicities, &left_out.holds), None);
+    assert_eq!(out, [5; 58]);
+    assert_eq!(left_out.write(&mut out), Ok(58));
+    assert_eq!((out[0], out[4], out[8], out[25], out[42], out[50]), (2, 4, LT as u8, AND as u8, 1, 9));
     // a table of no whole rows, and one of too many; before the entries
     let mut table = vec![3; (MAX_ROWS + 1) * COLUMNS];
     for words in [11, table.len()] {
-        assert_eq!(lent(1, &[(5, 0, 0, 0)]).fill(&mut table[..words]), Err(Shape));
+        assert_eq!(lent(1, &[(5, 0, 0, 1)]).fill(&mut table[..words]), Err(Shape));
     }
-    assert_eq!(lent(1, &[(AND, 0, 0, 0)]).fill(&mut table[..MAX_ROWS * COLUMNS]), Ok(1));
+    assert_eq!(lent(1, &[(AND, 0, 0, 1)]).fill(&mut table[..MAX_ROWS * COLUMNS]), Ok(1));
 }
 
 #[test]
@@ -134,6 +147,10 @@ fn read_refuses() {
         (lent(2048, &[]), many(21), Torn),
         (lent(2048, &[]), many(25), Torn),
         (lent(1, &[]), with(&[(8, 5)]), ListFull),
+        (lent(3, &[(LT, 1, 1, 1)]), bytes[..57].to_vec(), Torn),
+        (lent(3, &[(LT, 1, 1, 1)]), with(&[(8, 5)]), ListFull),
+        (lent(3, &[(LT, 1, 1, 0)]), bytes.clone(), ListFull),
+        (lent(3, &[(LT, 1, 1, 0)]), vec![0; 8], ListFull),
         (to.clone(), with(&[(8, 5), (4, 0)]), Stranger),
         (to.clone(), with(&[(13, 1), (4, 0)]), Wide),
         (to.clone(), with(&[(8, 12), (9, 0), (4, 0)]), BareLog),
@@ -146,11 +163,14 @@ fn read_refuses() {
         assert_eq!(after.read(&stored), Err(reason));
         assert_eq!(after, list);
     }
-    let mut shapes = [to.clone(), to.clone()];
+    let mut shapes = [(); 4].map(|()| to.clone());
     shapes[0].multiplicities.pop();
     shapes[1].holds.push(0);
+    shapes[2].other_multiplicities.push(0);
+    shapes[3].other_holds.pop();
     for mut shape in shapes {
-        assert_eq!(shape.read(&[]), Err(Shape));
+        let before = shape.clone();
+        assert_eq!((shape.read(&[]), shape.read(&bytes), shape), (Err(Shape), Err(Shape), before));
     }
     assert_eq!(to.clone().read(&bytes), Ok(2));
 }
@@ -225,7 +245,7 @@ fn flat_is_a_zero_denominator_and_nothing_else() {
         (&[(and_3_1, 2)], &[(1, 1)], Ok([2, 0, P - 2])),
         (&[(and_3_1, 2)], &[(2, 1)], Ok([2, P - 2, P - 2])),
         (&[(and_3_1, 2)], &[], Err(Flat)),
-        (&[(and_0_0, 0)], &[], Err(Flat)),
+        (&[(and_0_0, 1)], &[], Err(Flat)),
         (&[(and_3_1, 2)], &[(LHS, 1), (0, 3)], Err(Flat)),
         (&[(and_3_1, 2)], &[(LHS + 1, 1), (1, 3)], Err(Flat)),
         (&[(and_3_1, 2)], &[(LHS + 1, 1), (0, 1), (1, 3)], Ok([2, 0, 0])),
@@ -246,7 +266,9 @@ fn flat_is_a_zero_denominator_and_nothing_else() {
         assert_eq!(extend(&table, &mut aux, &challenges_with(words)), due);
         assert!(due.is_ok() || aux.iter().all(|word| *word == P));
         if entries.len() == 1 && words.is_empty() {
-            // a row that does not count is not judged
+            // a row with CopyFlag 1 is judged whatever its multiplicity, as no list makes it; one that does not count is not
+            table[column::LOOKUP_MULTIPLICITY] = 0;
+            assert_eq!(extend(&table, &mut aux, &[0; 15]), Err(Flat));
             table[0] = 2;
             assert_eq!(extend(&table, &mut aux, &[0; 15]), Ok([0, 0, 0]));
         }

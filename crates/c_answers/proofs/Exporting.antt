@@ -1,7 +1,7 @@
 -- The three ways out of a C function: `answers` is too short; the work is done; the call refuses. Each gives the number, `answers` and the
 -- other lent arrays that are due. A call that reports on a refusal too has two: `answers` is too short, or the call was made. Assumes nothing.
 use Prim.Native.Nat.{ℕ, _<_, _≤_}
-use mathlib.Core.Path.{_≡_, sym, ap, _∙_}
+use mathlib.Core.Path.{_≡_, ap, _∙_}
 use mathlib.Core.Bool.{false}
 use mathlib.Core.List.{List}
 use native.Mathlib.Omega.{arith}

@@ -2,6 +2,7 @@
 // into `answers`.
 ghost use mathlib.Core.Path.{_≡_};
 ghost use Rattle.isa.specs.Entries.{entry};
+ghost use Rattle.list_shared.specs.Lent.{counts};
 ghost use Rattle.c_answers.specs.Exports.{lentList, Exported};
 ghost use Rattle.c_lists.specs.ListAnswers.{orderNumber, compareAll};
 ghost use Rattle.c_lists.specs.ListAnswers.{RecordAnswers, RecordLeaves, HoldAnswers, HoldLeaves, ConfirmLeaves, DropLeaves};
@@ -39,23 +40,27 @@ pub fn record_entry(
     keys: &mut [u64],
     multiplicities: &mut [u64],
     holds: &mut [u64],
+    other_multiplicities: &mut [u64],
+    other_holds: &mut [u64],
     opcode: u64,
     left_operand: u64,
     right_operand: u64,
     answers: &mut [u64],
 ) -> u64
-    ensures answers { λ r. ⌜ RecordAnswers (lentList capacity used (now (keys .entry)) (now (multiplicities .entry)) (now (holds .entry))) (entry opcode «left_operand» «right_operand») (now (answers .entry)) r (now (answers .exit)) ⌝ }
-    ensures list { λ _. ⌜ RecordLeaves (lentList capacity used (now (keys .entry)) (now (multiplicities .entry)) (now (holds .entry))) (entry opcode «left_operand» «right_operand») (now (answers .entry)) (now (keys .exit)) (now (multiplicities .exit)) (now (holds .exit)) ⌝ }
+    ensures answers { λ r. ⌜ RecordAnswers (lentList capacity used (now (keys .entry)) (now (multiplicities .entry)) (now (holds .entry))) (counts (now («other_multiplicities» .entry)) (now («other_holds» .entry))) (entry opcode «left_operand» «right_operand») (now (answers .entry)) r (now (answers .exit)) ⌝ }
+    ensures list { λ _. ⌜ RecordLeaves (lentList capacity used (now (keys .entry)) (now (multiplicities .entry)) (now (holds .entry))) (counts (now («other_multiplicities» .entry)) (now («other_holds» .entry))) (entry opcode «left_operand» «right_operand») (now (answers .entry)) (now (keys .exit)) (now (multiplicities .exit)) (now (holds .exit)) (counts (now («other_multiplicities» .exit)) (now («other_holds» .exit))) ⌝ }
 {
     if answers.len() < RECORD_ANSWERS {
         return SHAPE;
     }
     let sizes = Sizes { capacity, used };
-    let r = list_record::record_lending(
+    let r = list_shared::record_shared(
         sizes,
         keys,
         multiplicities,
         holds,
+        other_multiplicities,
+        other_holds,
         opcode,
         left_operand,
         right_operand,
@@ -78,23 +83,27 @@ pub fn hold_entry(
     keys: &mut [u64],
     multiplicities: &mut [u64],
     holds: &mut [u64],
+    other_multiplicities: &mut [u64],
+    other_holds: &mut [u64],
     opcode: u64,
     left_operand: u64,
     right_operand: u64,
     answers: &mut [u64],
 ) -> u64
-    ensures answers { λ r. ⌜ HoldAnswers (lentList capacity used (now (keys .entry)) (now (multiplicities .entry)) (now (holds .entry))) (entry opcode «left_operand» «right_operand») (now (answers .entry)) r (now (answers .exit)) ⌝ }
-    ensures list { λ _. ⌜ HoldLeaves (lentList capacity used (now (keys .entry)) (now (multiplicities .entry)) (now (holds .entry))) (entry opcode «left_operand» «right_operand») (now (answers .entry)) (now (keys .exit)) (now (multiplicities .exit)) (now (holds .exit)) ⌝ }
+    ensures answers { λ r. ⌜ HoldAnswers (lentList capacity used (now (keys .entry)) (now (multiplicities .entry)) (now (holds .entry))) (counts (now («other_multiplicities» .entry)) (now («other_holds» .entry))) (entry opcode «left_operand» «right_operand») (now (answers .entry)) r (now (answers .exit)) ⌝ }
+    ensures list { λ _. ⌜ HoldLeaves (lentList capacity used (now (keys .entry)) (now (multiplicities .entry)) (now (holds .entry))) (counts (now («other_multiplicities» .entry)) (now («other_holds» .entry))) (entry opcode «left_operand» «right_operand») (now (answers .entry)) (now (keys .exit)) (now (multiplicities .exit)) (now (holds .exit)) (counts (now («other_multiplicities» .exit)) (now («other_holds» .exit))) ⌝ }
 {
     if answers.len() < HOLD_ANSWERS {
         return SHAPE;
     }
     let sizes = Sizes { capacity, used };
-    let held = list_record::hold_u32_table_entry_by_value(
+    let held = list_shared::hold_shared(
         sizes,
         keys,
         multiplicities,
         holds,
+        other_multiplicities,
+        other_holds,
         opcode,
         left_operand,
         right_operand,
@@ -153,17 +162,27 @@ pub fn replay(
     keys: &mut [u64],
     multiplicities: &mut [u64],
     holds: &mut [u64],
+    other_multiplicities: &mut [u64],
+    other_holds: &mut [u64],
     trace: &[u64],
     answers: &mut [u64],
 ) -> u64
-    ensures answers { λ r. ⌜ ReplayAnswers (lentList capacity used (now (keys .entry)) (now (multiplicities .entry)) (now (holds .entry))) (now (trace .entry)) (now (answers .entry)) r (now (answers .exit)) ⌝ }
-    ensures list { λ _. ⌜ ReplayLeaves (lentList capacity used (now (keys .entry)) (now (multiplicities .entry)) (now (holds .entry))) (now (trace .entry)) (now (answers .entry)) (now (keys .exit)) (now (multiplicities .exit)) (now (holds .exit)) ⌝ }
+    ensures answers { λ r. ⌜ ReplayAnswers (lentList capacity used (now (keys .entry)) (now (multiplicities .entry)) (now (holds .entry))) (counts (now («other_multiplicities» .entry)) (now («other_holds» .entry))) (now (trace .entry)) (now (answers .entry)) r (now (answers .exit)) ⌝ }
+    ensures list { λ _. ⌜ ReplayLeaves (lentList capacity used (now (keys .entry)) (now (multiplicities .entry)) (now (holds .entry))) (counts (now («other_multiplicities» .entry)) (now («other_holds» .entry))) (now (trace .entry)) (now (answers .entry)) (now (keys .exit)) (now (multiplicities .exit)) (now (holds .exit)) (counts (now («other_multiplicities» .exit)) (now («other_holds» .exit))) ⌝ }
 {
     if answers.len() < REPLAY_ANSWERS {
         return SHAPE;
     }
     let sizes = Sizes { capacity, used };
-    let made = list_replay::replay(sizes, keys, multiplicities, holds, trace);
+    let made = list_shared::replay_shared(
+        sizes,
+        keys,
+        multiplicities,
+        holds,
+        other_multiplicities,
+        other_holds,
+        trace,
+    );
     let answer = made.answer;
     match answer {
         Replayed::Done(steps) => {
@@ -244,16 +263,26 @@ pub fn read(
     keys: &mut [u64],
     multiplicities: &mut [u64],
     holds: &mut [u64],
+    other_multiplicities: &mut [u64],
+    other_holds: &mut [u64],
     answers: &mut [u64],
 ) -> u64
-    ensures answers { λ r. ⌜ ReadAnswers (lentList capacity used (now (keys .entry)) (now (multiplicities .entry)) (now (holds .entry))) (now (bytes .entry)) (now (answers .entry)) r (now (answers .exit)) ⌝ }
-    ensures list { λ _. ⌜ ReadLeaves (lentList capacity used (now (keys .entry)) (now (multiplicities .entry)) (now (holds .entry))) (now (bytes .entry)) (now (answers .entry)) (now (keys .exit)) (now (multiplicities .exit)) (now (holds .exit)) ⌝ }
+    ensures answers { λ r. ⌜ ReadAnswers (lentList capacity used (now (keys .entry)) (now (multiplicities .entry)) (now (holds .entry))) (counts (now («other_multiplicities» .entry)) (now («other_holds» .entry))) (now (bytes .entry)) (now (answers .entry)) r (now (answers .exit)) ⌝ }
+    ensures list { λ _. ⌜ ReadLeaves (lentList capacity used (now (keys .entry)) (now (multiplicities .entry)) (now (holds .entry))) (counts (now («other_multiplicities» .entry)) (now («other_holds» .entry))) (now (bytes .entry)) (now (answers .entry)) (now (keys .exit)) (now (multiplicities .exit)) (now (holds .exit)) (counts (now («other_multiplicities» .exit)) (now («other_holds» .exit))) ⌝ }
 {
     if answers.len() < READ_ANSWERS {
         return SHAPE;
     }
     let sizes = Sizes { capacity, used };
-    let r = list_stored::read_list(bytes, sizes, keys, multiplicities, holds);
+    let r = list_shared::read_shared(
+        bytes,
+        sizes,
+        keys,
+        multiplicities,
+        holds,
+        other_multiplicities,
+        other_holds,
+    );
     let answer = r.answer;
     match answer {
         Read::Entries(n) => {

@@ -2,4 +2,3 @@ pub mod Requests
 pub mod TermSums
 pub mod Servers
 pub mod ClientLaw
-pub mod DroppedKeys

@@ -1,32 +1,36 @@
--- The table's end, of an admitted list with no open hold. The sum over its first rows is that over its places (server-sum). Where no key's denominator is zero and what
--- is lent is right, neither fill nor extend declines (fill-fine, extend-fine), and the last sum stands in the last row of aux (last-sum). Assumes nothing.
+-- The table's end, of an admitted list with no open hold. The first rows of what gets sections are those of the counted places (counted-first-rows), and their
+-- sum is that over all places, since a place that is not counted adds nothing (server-sum). Where no denominator of a key that gets a section is zero and
+-- what is lent is right, neither fill nor extend declines (fill-fine, extend-fine), and the last sum stands in the last row of aux (last-sum). Assumes nothing.
 use Prim.Native.Nat.{ℕ, zero, suc, _+_, _-_, _≤_, _<_}
 use mathlib.Core.Path.{_≡_, refl, sym, ap, _∙_}
 use mathlib.Core.Bool.{true, not, and-eq-true-iff}
-use mathlib.Core.List.{List, [], _∷_, _++_}
+use mathlib.Core.List.{List, [], _∷_, _++_, map}
 use mathlib.Core.Logic.{_≢_}
+use native.Mathlib.Nat.{zero-add}
 use native.Mathlib.Omega.{arith}
 use borrow.Author.Tests.{le-ltb}
 use Rattle.words.specs.Places.{placesFrom, places}
-use Rattle.words.proofs.Places.{places-more}
 use Rattle.words.specs.Outcomes.{Outcome}
 use Rattle.words.specs.declared.Judgement.the-variants.{Fine}
 use Rattle.words.specs.declared.Refusal.the-variants.{Shape, Short, Unreduced, Flat}
 use Rattle.words.proofs.Judgements.{or-next, decline-false, decline-not-true}
 use Rattle.words.proofs.Outcomes.{outcome-fine}
-use Rattle.xfield.specs.Extension.{Ext, zeroX, addX, isZeroX}
-use Rattle.xfield.proofs.Laws.{reduced-same, isZeroX-no}
+use Rattle.xfield.specs.Extension.{zeroX, addX, scaleX, isZeroX}
+use Rattle.xfield.specs.Inverses.{invX}
+use Rattle.xfield.proofs.Laws.{addX-zero-right, scaleX-zero, reduced-same, isZeroX-no}
 use Rattle.isa.specs.declared.U32TableEntry.{U32TableEntry}
 use Rattle.list.specs.Lists.{U32List, used, entryAt, multiplicityAt}
 use Rattle.list.specs.Heights.{listHeight}
+use Rattle.list.specs.Counted.{countedPlaces, counted}
 use Rattle.list.specs.Holds.{HeldList, sectionList, judgeHeld}
+use Rattle.list.proofs.CountedLists.{counted-used, counted-entry, counted-count, counted-fold, places-map}
 use Rattle.list_record.proofs.RecordViews.{viewOf}
 use Rattle.table.specs.Columns.{Row, rowCount, auxAt}
 use Rattle.table.specs.Challenges.{Challenges, challengesOf}
 use Rattle.sums.specs.RunningSum.{runningSum}
 use Rattle.sums.specs.LookupSum.{summandAt, lookupSum}
 use Rattle.sums.proofs.SumWords.{sums-at}
-use Rattle.sums.proofs.PlainSums.{sumX}
+use Rattle.sums.proofs.PlainSums.{sumX, sumX-reduced}
 use Rattle.fill_sections.specs.Sections.{firstRow}
 use Rattle.fill.specs.Filling.{fillReason}
 use Rattle.fill.specs.Extending.{extendAll}
@@ -35,32 +39,57 @@ use Rattle.four_calls.proofs.Calls.{fill-answer, fill-done}
 use Rattle.four_calls.proofs.Sums.{sum-join}
 use Rattle.four_calls.proofs.FourCalls.{padded-rows, after-fill}
 use Rattle.client_sum.specs.Client.{entryDenominator}
-use Rattle.client_law.specs.ClientLaw.{RightlyLent, NoZeroSection}
+use Rattle.client_law.specs.ClientLaw.{RightlyLent}
 use Rattle.client_law.proofs.Requests.{entry-reduced}
 use Rattle.client_law.proofs.TermSums.{termAt, termSum}
 
 -- ---- the sum over the first rows
 
-rows-append : (l : U32List) (is js : List ℕ) → firstRowsAt l (is ++ js) ≡ firstRowsAt l is ++ firstRowsAt l js
+pub rows-append : (l : U32List) (is js : List ℕ) → firstRowsAt l (is ++ js) ≡ firstRowsAt l is ++ firstRowsAt l js
 unfolding firstRowsAt
 rows-append l [] js = refl
 rows-append l (i ∷ is) js = ap (λ (rs : List Row). firstRow (entryAt l i) (multiplicityAt l i) ∷ rs) (rows-append l is js)
 
--- of the first n places
-sum-to : (c : Challenges) (h : HeldList) (n : ℕ) → sumFrom c zeroX (firstRowsAt (h .list) (places n)) ≡ sumX (termAt c (viewOf h)) n
-unfolding sumFrom firstRowsAt placesFrom sumX firstRow viewOf
-sum-to c h zero = refl
-sum-to c h (suc n) =
-    ap (λ (is : List ℕ). sumFrom c zeroX (firstRowsAt (h .list) is)) (sym (places-more n))
-    ∙ ap (sumFrom c zeroX) (rows-append (h .list) (places n) (n ∷ []))
-    ∙ sum-join c zeroX (firstRowsAt (h .list) (places n)) (firstRowsAt (h .list) (n ∷ []))
-    ∙ ap (λ (x : Ext). addX x (termAt c (viewOf h) n)) (sum-to c h n)
+rows-map : (l : U32List) (is : List ℕ) → firstRowsAt l is ≡ map (λ i. firstRow (entryAt l i) (multiplicityAt l i)) is
+unfolding firstRowsAt
+rows-map l [] = refl
+rows-map l (i ∷ is) = ap (λ (rs : List Row). firstRow (entryAt l i) (multiplicityAt l i) ∷ rs) (rows-map l is)
+
+-- what stands at the places of the counted list stands at the counted places
+pub counted-first-rows : (l : U32List) → firstRows (counted l) ≡ firstRowsAt l (countedPlaces l)
+counted-first-rows l =
+    rows-map (counted l) (places (used (counted l)))
+    ∙ ap (λ (n : ℕ). map (λ i. firstRow (entryAt (counted l) i) (multiplicityAt (counted l) i)) (places n)) (counted-used l)
+    ∙ places-map (λ i. firstRow (entryAt (counted l) i) (multiplicityAt (counted l) i)) (λ i. firstRow (entryAt l i) (multiplicityAt l i))
+    (countedPlaces l) 0 (λ j h. rw (zero-add j, counted-entry l j h, counted-count l j h))
+    ∙ sym (rows-map l (countedPlaces l))
 
 pub server-sum : (c : Challenges) (h : HeldList) → sumFrom c zeroX (firstRows (sectionList h)) ≡ termSum c (viewOf h)
-unfolding termSum viewOf sectionList
-server-sum c h = sum-to c h (used (h .list))
+unfolding sectionList termSum sumX sumFrom firstRowsAt firstRow viewOf
+server-sum c h =
+    ap (sumFrom c zeroX) (counted-first-rows (h .list))
+    ∙ counted-fold (h .list) (λ is. sumFrom c zeroX (firstRowsAt (h .list) is)) (λ n. sumX (termAt c (viewOf h)) n)
+    (λ x i. addX x (termAt c (viewOf h) i)) more refl skip (λ n z. refl) (used (h .list))
+  where
+    more : (is : List ℕ) (i : ℕ)
+        → sumFrom c zeroX (firstRowsAt (h .list) (is ++ (i ∷ []))) ≡ addX (sumFrom c zeroX (firstRowsAt (h .list) is)) (termAt c (viewOf h) i)
+    more is i =
+        ap (sumFrom c zeroX) (rows-append (h .list) is (i ∷ []))
+        ∙ sum-join c zeroX (firstRowsAt (h .list) is) (firstRowsAt (h .list) (i ∷ []))
+
+    skip : (n : ℕ) → multiplicityAt (h .list) n ≡ 0
+        → addX (sumX (termAt c (viewOf h)) n) (termAt c (viewOf h) n) ≡ sumX (termAt c (viewOf h)) n
+    skip n z =
+        let y = invX (entryDenominator c (entryAt (h .list) n)) in
+        ap (λ (m : ℕ). addX (sumX (termAt c (viewOf h)) n) (scaleX m y)) z
+        ∙ ap (addX (sumX (termAt c (viewOf h)) n)) (scaleX-zero y)
+        ∙ addX-zero-right (sumX (termAt c (viewOf h)) n) (sumX-reduced (termAt c (viewOf h)) n)
 
 -- ---- no first row's denominator is zero
+
+-- no denominator of a key of the list is zero
+abbrev pub NoZeroSection : Challenges → U32List → Type 0
+NoZeroSection c l = (i : ℕ) → i < used l → entryDenominator c (entryAt l i) ≢ zeroX
 
 denominator-not-zero : (c : Challenges) (e : U32TableEntry) → entryDenominator c e ≢ zeroX → not (isZeroX (entryDenominator c e)) ≡ true
 denominator-not-zero c e n = rw (isZeroX-no (entryDenominator c e) (λ z. n (sym (reduced-same _ (entry-reduced c e)) ∙ z)))

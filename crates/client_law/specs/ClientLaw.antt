@@ -12,7 +12,6 @@ use Rattle.words.specs.declared.Judgement.the-variants.{Fine}
 use Rattle.xfield.specs.Extension.{zeroX}
 use Rattle.isa.specs.declared.U32TableEntry.{U32TableEntry}
 use Rattle.isa.specs.Entries.{entryWords, admitted}
-use Rattle.list.specs.Lists.{U32List, used, entryAt}
 use Rattle.list.specs.Heights.{listHeight}
 use Rattle.list.specs.Holds.{HeldList, openHold, sectionList}
 use Rattle.list_record.specs.Recording.{recordEach}
@@ -69,15 +68,11 @@ ReplayIsServer h trace table aux challenges =
     → RightlyLent (listHeight (sectionList (replayAll h trace .left))) table aux challenges
     → SumsAgree (replayAll h trace .left) (traceEntries trace) table aux challenges
 
--- No denominator of a key that gets a section is zero. A key whose holds were all dropped gets one too, though nothing of it is counted
--- (DroppedKeys.antt)
-abbrev pub NoZeroSection : Challenges → U32List → Type 0
-NoZeroSection c l = (i : ℕ) → i < used l → entryDenominator c (entryAt l i) ≢ zeroX
-
 -- and where recordings are "made in two parts" (request 6), among holds, drops, replays and refused calls: over what the calls count, if no hold is
--- open after them
+-- open after them and no denominator of what they count is zero. No other denominator is asked for: a key that nothing counts, as one whose holds were all
+-- dropped, has no section (request 11)
 abbrev pub CallsAreServer : HeldList → List Call → (table aux challenges : List ℕ) → Type 0
 CallsAreServer h cs table aux challenges =
-    Fresh h → openHold (after h cs) ≡ Fine → NoZeroSection (challengesOf challenges) (sectionList (after h cs))
+    Fresh h → openHold (after h cs) ≡ Fine → NoZeroDenominator (challengesOf challenges) (counted h cs)
     → RightlyLent (listHeight (sectionList (after h cs))) table aux challenges
     → SumsAgree (after h cs) (counted h cs) table aux challenges

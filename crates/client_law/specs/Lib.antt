@@ -1,2 +1,1 @@
 pub mod ClientLaw
-pub mod DroppedKeys

@@ -1,4 +1,5 @@
--- Filling (document 01, under that heading): the sections of a list, joined, and what `fill` answers and leaves.
+-- Filling (document 01, under that heading): the sections of a list, joined, and what `fill` answers and leaves. The list that gets sections is
+-- `sectionList`: "A fill .. leaves out keys whose count .. is 0" (request 11).
 use Prim.Native.Nat.{ℕ}
 use mathlib.Core.Bool.{not}
 use mathlib.Core.List.{List, [], _∷_, _++_}
@@ -27,7 +28,8 @@ sectionsAt l (i ∷ is) = rowsOf (section (entryAt l i) (multiplicityAt l i)) ++
 abbrev pub sections : U32List → List Row
 sections l = sectionsAt l (sectionPlaces l)
 
--- "Fill .. 1, then 2 to 5 entry by entry, then (fill) 7": 1 also for the table, 7 is "table below the height"; request 6 has 15 "directly after 1"
+-- "Fill .. 1, then 2 to 5 entry by entry, then (fill) 7": 1 also for the table, 7 is "table below the height"; request 6 has 15 "directly after 1".
+-- 2 to 5 and 7 look at the keys that get a section: "left-out keys are not examined" (request 11)
 unfoldable pub fillReason : HeldList → List ℕ → Judgement
 fillReason h table =
     orElse (declineIf (not (tableShape table)) Shape)

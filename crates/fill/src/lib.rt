@@ -2,10 +2,13 @@
 ghost use mathlib.Core.Path.{_≡_};
 ghost use Prim.Native.Nat.{_*_, _≤_};
 ghost use lib.ListN.{length};
+ghost use Rattle.words.specs.Limits.{maxPlaces};
 ghost use Rattle.words.specs.Outcomes.{Leaves, completedAnswer};
 ghost use Rattle.words.specs.declared.Judgement.the-variants.{Fine};
+ghost use Rattle.isa.specs.Entries.{entryWidth};
 ghost use Rattle.list.specs.Lists.{u32List, judgeList};
 ghost use Rattle.list.specs.Heights.{listHeight};
+ghost use Rattle.list.specs.Counted.{counted};
 ghost use Rattle.list.specs.Holds.{heldList};
 ghost use Rattle.table.specs.Columns.{mainWidth};
 ghost use Rattle.table.specs.Layouts.{rowOf};
@@ -14,10 +17,12 @@ ghost use Rattle.fill.specs.Padding.{lastFilled, paddingRow, padAll};
 use field::BFieldElement;
 use fill_results::Choice;
 use isa::Admission;
+use isa::U32TableEntry;
 use list::Judged;
 use list::Sizes;
 use table::MainRow;
 use words::Completed;
+use words::MAX_PLACES;
 use words::Refusal;
 
 // What `fill` answers: the height, or why it declines.
@@ -60,9 +65,31 @@ fn fill_sections(sizes: Sizes, keys: &[u64], multiplicities: &[u64], table: &mut
     Filled::Rows(row as u64)
 }
 
-// Fills the sections of the list's entries, in list order, from row 0 on. The answer is the height; later rows keep their words. It refuses
-// a table or list of the wrong shape, a hold that is open, an entry that is not admitted or counted too often, and a table with fewer rows than the
-// height.
+// Fills the sections of the counted keys of a list, those whose multiplicity is not 0. They are gathered in a copy; the others have no section.
+fn fill_counted(sizes: Sizes, keys: &[u64], multiplicities: &[u64], table: &mut [u64]) -> Filled
+    requires { ⌜ (sizes .used ≤ maxPlaces) × (entryWidth * sizes .used ≤ length (now keys)) × (sizes .used ≤ length (now multiplicities)) ⌝ }
+    requires { ⌜ judgeList (counted (u32List sizes (now keys) (now multiplicities))) ≡ Fine ⌝ }
+    requires { ⌜ mainWidth * listHeight (counted (u32List sizes (now keys) (now multiplicities))) ≤ length (now table) ⌝ }
+    ensures { λ r. ⌜ r ≡ Filled.Rows (listHeight (counted (u32List sizes (now (keys .entry)) (now (multiplicities .entry))))) ⌝ }
+    ensures { λ _. ⌜ now (table .exit) ≡ filled (counted (u32List sizes (now (keys .entry)) (now (multiplicities .entry)))) (now (table .entry)) ⌝ }
+{
+    let mut to_keys = [0u64; U32TableEntry::WIDTH * MAX_PLACES];
+    let mut to_multiplicities = [0u64; MAX_PLACES];
+    let copy = list::counted(
+        sizes,
+        keys,
+        multiplicities,
+        &mut to_keys,
+        &mut to_multiplicities,
+    );
+    let n = copy.used;
+    let end = U32TableEntry::WIDTH * n;
+    fill_sections(copy, &to_keys[..end], &to_multiplicities[..n], table)
+}
+
+// Fills the sections of the list's counted keys, in list order, from row 0 on. The answer is the height; later rows keep their words. A key whose
+// multiplicity is 0 has no section and is not examined. It refuses a table or list of the wrong shape, a hold that is open at any used place, a
+// counted key that is not admitted or counted too often, and a table with fewer rows than the height.
 pub fn fill(
     sizes: Sizes,
     keys: &[u64],
@@ -81,7 +108,7 @@ pub fn fill(
             if ((table.len() / MainRow::WIDTH) as u64) < height {
                 return Filled::Refused(Refusal::Short);
             }
-            fill_sections(sizes, keys, multiplicities, table)
+            fill_counted(sizes, keys, multiplicities, table)
         }
     }
 }

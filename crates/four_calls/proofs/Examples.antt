@@ -1,9 +1,9 @@
 -- The twelve proved examples of document 01, by one theorem (`twelve-examples`). Heights and plain functions are computed; the
 -- Result of a section's first row is the plain function's, as for every admitted entry; the padding is that of the table after fill
--- and pad. And the section of a key with multiplicity 0, computed (`dropped-has-section`).
+-- and pad. And that a key with multiplicity 0 has no section, computed (`dropped-has-no-section`).
 use Prim.Native.Nat.{ℕ, _+_, _-_, _*_}
 use mathlib.Core.Path.{_≡_, refl, sym, ap, _∙_, subst}
-use mathlib.Core.List.{List, [], _∷_}
+use mathlib.Core.List.{List, [], _∷_, flatMap}
 use native.Mathlib.Omega.{arith}
 use lib.Dec.{lit<}
 use lib.ListN.{length, getD, replicate}
@@ -13,15 +13,17 @@ use Rattle.words.specs.Answers.{done}
 use Rattle.words.specs.Places.{placesFrom}
 use Rattle.words.specs.Refusals.{firstReason}
 use Rattle.words.specs.declared.Judgement.the-variants.{Fine}
-use Rattle.isa.specs.Opcodes.{opLt, opLog2Floor, opAnd, opPopCount, opPow, isOpcode}
+use Rattle.isa.specs.Opcodes.{opLt, opLog2Floor, opPopCount, opPow, isOpcode}
 use Rattle.isa.specs.PlainFunctions.{plainLt, floorLog2, plainPow, oneBits, plainResult}
 use Rattle.isa.specs.declared.U32TableEntry.{U32TableEntry}
 use Rattle.isa.specs.Entries.{lhs, rhs, entry, judgeAsItIs, judgeEntry, admitted, dominant, heightOf, height}
 use Rattle.isa.proofs.Entries.{Admissible, fine-admissible}
 use Rattle.list.specs.Lists.{keyAt, multiplicityAt, entryAt, listShape, countFull, judgeEntryBy, judgePlaceBy, judgeList}
 use Rattle.list.specs.Heights.{sectionPlaces, entriesAt, sumHeights, listHeight}
+use Rattle.list.specs.Counted.{countedTo, counted}
 use Rattle.list.specs.Holds.{HeldList, holdAt, heldShape, judgeHold, openHold, sectionList, judgeHeld}
 use Rattle.table.specs.Columns.{Row, mainWidth, rowAt, tableShape}
+use Rattle.table.specs.RowWords.{tableWords}
 use Rattle.fill_results.specs.declared.Choice.the-variants.{Value}
 use Rattle.fill_results.specs.Results.{isEnd, ending}
 use Rattle.fill_sections.specs.Sections.{sectionRow, firstPending, sectionFrom, section, topResult}
@@ -30,7 +32,7 @@ use Rattle.fill_sections.specs.Sections.{firstRow}
 use Rattle.fill.specs.Filling.{fillReason, fillAll}
 use Rattle.fill.specs.Padding.{paddingRow}
 use Rattle.four_calls.specs.FourCalls.{firstRowsAt, paddedTable}
-use Rattle.four_calls.specs.Examples.{oneEntry, HasResult, HasPadding, AllHold, examples, DroppedHasSection}
+use Rattle.four_calls.specs.Examples.{oneEntry, HasResult, HasPadding, AllHold, examples, DroppedHasNoSection}
 use Rattle.four_calls.proofs.RowLists.{row-of-words}
 use Rattle.four_calls.proofs.Sections.{honest-section}
 use Rattle.four_calls.proofs.Tables.{front, paddedRows}
@@ -63,6 +65,9 @@ unfolding
     judgeHold
     holdAt
     sectionList
+    counted
+    countedTo
+    flatMap
     judgeList
     listShape
     firstReason
@@ -94,7 +99,7 @@ abbrev onlyRow : Row
 onlyRow = sectionRow (firstPending (entry opLt 0 0) 1) 0
 
 one-row : sectionsAt (sectionList list) (sectionPlaces (sectionList list)) ≡ onlyRow ∷ []
-unfolding sectionList placesFrom sectionsAt entryAt admitted keyAt multiplicityAt section sectionFrom isEnd ending
+unfolding sectionList counted countedTo flatMap placesFrom sectionsAt entryAt admitted keyAt multiplicityAt section sectionFrom isEnd ending
 one-row = refl
 
 row-below : (f : Filled list table 1) → rowAt (paddedTable list table 1) 1 .result ≡ 2
@@ -157,7 +162,7 @@ twelve-examples = (
 )
 
 -- ---- a key with multiplicity 0
-pub dropped-has-section : DroppedHasSection (entry opAnd 3 1) 3
+pub dropped-has-no-section : (e : U32TableEntry) → DroppedHasNoSection e 3
 unfolding
     fillAll
     fillReason
@@ -168,26 +173,18 @@ unfolding
     judgeHold
     holdAt
     sectionList
+    counted
+    countedTo
+    flatMap
     judgeList
     listShape
     firstReason
-    judgePlaceBy
-    judgeEntryBy
-    judgeEntry
-    judgeAsItIs
-    isOpcode
-    keyAt
     multiplicityAt
-    countFull
     placesFrom
-    entryAt
-    admitted
     entriesAt
     sumHeights
     listHeight
-    height
-    heightOf
-    dominant
-    floorLog2
+    sectionsAt
+    tableWords
     firstRowsAt
-dropped-has-section = record { fills = refl; first-row = refl }
+dropped-has-no-section e = record { fills = refl; no-row = refl }

@@ -1,6 +1,6 @@
 -- THE CLAIM over the four calls (`four-calls`): for every list with its holds, and whatever table, aux and challenges hold, where the table
 -- has a row or more and none of fill, pad and extend refuses, the check answers zero on what they leave, and the table's CopyFlag 1 rows
--- are the first rows of the list, in its order. Room for the height is no condition, nor is it that no hold is open: fill would answer 7
+-- are the first rows of the keys that get a section, in list order. Room for the height is no condition, nor is it that no hold is open: fill would answer 7
 -- or 15. And (`after-fill`) once fill has answered a height, pad refuses nothing, and extend no more than what it is given besides the table.
 -- The table is the words of a list of honest rows in a chain; so its rows and pairs meet their constraints, the last row is an end row,
 -- and the aux words are running sums.

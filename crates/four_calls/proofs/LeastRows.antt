@@ -1,6 +1,6 @@
--- THE BOUND IS REACHED (`filled-is-shortest`): on as many rows as fill reports, the four calls make a table that passes, in which each entry of the
--- list has a CopyFlag 1 row of its own, and no such table is shorter (row_bound/proofs/RowBound.antt). The CopyFlag 1 rows of what the calls leave
--- are the first rows of the list, in its order (`four-calls`): so the own row of the k-th entry is the k-th of them.
+-- THE BOUND IS REACHED (`filled-is-shortest`): on as many rows as fill reports, the four calls make a table that passes, in which each key
+-- that gets a section has a CopyFlag 1 row of its own, and no such table is shorter (row_bound/proofs/RowBound.antt). The CopyFlag 1 rows of what the
+-- calls leave are the first rows of these keys, in list order (`four-calls`): so the own row of the k-th is the k-th of them.
 use Prim.Native.Nat.{ℕ, zero, suc, _+_, _<_}
 use mathlib.Core.Path.{_≡_, refl, sym, ap, _∙_, subst}
 use mathlib.Core.Logic.{_⊎_, inl, inr}

@@ -1,5 +1,5 @@
 -- "Proved examples" (document 01, under that heading): "These twelve form one table, proved by one theorem" (proofs/Examples.antt). And one of
--- request 6: the section of a key that was dropped back to 0.
+-- request 11: a key that was dropped back to 0 has no section.
 use Prim.Native.Nat.{ℕ, _+_, _-_, _*_}
 use mathlib.Core.Path.{_≡_}
 use mathlib.Core.List.{List, [], _∷_}
@@ -14,7 +14,7 @@ use Rattle.isa.specs.Entries.{lhs, rhs, entry, height}
 use Rattle.list.specs.Holds.{HeldList, heldList, sectionList}
 use Rattle.table.specs.Columns.{mainWidth, rowAt}
 use Rattle.fill_results.specs.declared.Choice.the-variants.{Value}
-use Rattle.fill_sections.specs.Sections.{section, topResult, firstRow}
+use Rattle.fill_sections.specs.Sections.{section, topResult}
 use Rattle.fill.specs.Filling.{fillAll}
 use Rattle.four_calls.specs.FourCalls.{firstRows, paddedTable}
 
@@ -65,8 +65,8 @@ abbrev pub AllHold : List Example → Type 0
 AllHold [] = Unit {0}
 AllHold (e ∷ es) = Holds e × AllHold es
 
--- request 6: "A key dropped back to 0 keeps its place and gets a section with multiplicity 0." The list of such a key is filled with these rows, and
--- the first is the key's, with multiplicity 0
-pub record DroppedHasSection (e : U32TableEntry) (rows : ℕ) : Type 0 where
-  pub fills : fillAll (oneEntry e 0) (replicate (mainWidth * rows) 0) .answer ≡ done (rows ∷ [])
-  pub first-row : firstRows (sectionList (oneEntry e 0)) ≡ firstRow e 0 ∷ []
+-- request 11: "so a key dropped to 0 has no section any more". The list of such a key alone is filled with no row: the answer is 0, the table is as it
+-- was, and there is no first row
+pub record DroppedHasNoSection (e : U32TableEntry) (rows : ℕ) : Type 0 where
+  pub fills : fillAll (oneEntry e 0) (replicate (mainWidth * rows) 0) ≡ record { answer = done (0 ∷ []); left = replicate (mainWidth * rows) 0 }
+  pub no-row : firstRows (sectionList (oneEntry e 0)) ≡ []

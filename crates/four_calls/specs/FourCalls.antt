@@ -1,6 +1,6 @@
 -- What four calls in a row leave (document 01, "Check": "The last sentence is one claim about four calls in a row, whatever table
 -- and aux held at first: each takes what the one before answered or left, and nothing else writes there meanwhile";
--- proofs/FourCalls.antt).
+-- proofs/FourCalls.antt). Of a list with its holds it is `sectionList` whose first rows the table has: that of the keys whose multiplicity is not 0.
 use Prim.Native.Nat.{ℕ, zero, suc}
 use mathlib.Core.Path.{_≡_}
 use mathlib.Core.Bool.{Bool, true, cond, not, _&&_}
@@ -91,6 +91,6 @@ pub record AfterFill (h : HeldList) (table : List ℕ) (height : ℕ) : Type 0 w
   pub pad-done : padAll (filledTable h table) height .answer ≡ done []
   pub extend-refuses : (aux challenges : List ℕ)
       → extendReason (paddedTable h table height) aux challenges ≡ extendRefusals (sectionList h) table aux challenges
-  -- the sum that extend answers is that over the first rows of the list
+  -- the sum that extend answers is that over the first rows of the keys that get a section
   pub sum-is : (challenges : List ℕ)
       → lookupSum (paddedTable h table height) challenges ≡ sumFrom (challengesOf challenges) zeroX (firstRows (sectionList h))

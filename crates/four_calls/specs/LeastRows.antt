@@ -1,4 +1,5 @@
--- No row is wasted (change request 8): the height that fill reports is the least number of rows of any honest table for the list.
+-- No row is wasted (change request 8): the height that fill reports is the least number of rows of any honest table for the keys of the list that
+-- get a section.
 use Prim.Native.Nat.{ℕ, max, _≤_}
 use mathlib.Core.Path.{_≡_}
 use mathlib.Core.List.{List, []}
@@ -22,7 +23,7 @@ pub record Shortest (l : U32List) (table aux challenges : List ℕ) : Type 0 whe
   pub honest : HonestFor l table aux challenges
   pub none-shorter : (other otherAux otherChallenges : List ℕ) → HonestFor l other otherAux otherChallenges → rowCount table ≤ rowCount other
 
--- on as many rows as fill reports, or on one where it reports none, the four calls make a shortest table
+-- on as many rows as fill reports, or on one where it reports none, the four calls make a shortest table for the keys that get a section
 abbrev pub FilledIsShortest : HeldList → List ℕ → List ℕ → List ℕ → ℕ → List ℕ → Type 0
 FilledIsShortest h table aux challenges height sum =
     rowCount table ≡ max height 1 → NoneRefuses h table aux challenges height sum

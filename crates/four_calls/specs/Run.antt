@@ -46,7 +46,7 @@ Ran h table aux challenges answer tableAfter auxAfter =
     Leaves (runAll h table aux challenges) answer (record { table = tableAfter; aux = auxAfter })
 
 -- THE CLAIM. A run that refuses nothing answers zero, never a constraint that is not zero; and then the CopyFlag 1 rows of the table are
--- the first rows of the list, in its order.
+-- the first rows of the keys that get a section, in list order.
 abbrev pub RunsHonestly : HeldList → Answer → (tableAfter : List ℕ) → Type 0
 RunsHonestly h answer tableAfter = answer .number ≡ 0 → (answer ≡ zeroAnswer) × (copyFlag1Rows tableAfter ≡ firstRows (sectionList h))
 

@@ -12,6 +12,7 @@ use Rattle.list.specs.declared.Sizes.{Sizes}
 use Rattle.list.specs.declared.Judged.{Judged}
 use Rattle.list.specs.Lists.{U32List, u32List, capacity, used, listShape, judgeList}
 use Rattle.list.specs.Heights.{listHeight, judgedAs}
+use Rattle.list.specs.Counted.{counted}
 
 pub record HeldList : Type 0 where
   pub list : U32List
@@ -36,11 +37,11 @@ judgeHold h i = declineIf (not (eqb (holdAt h i) 0)) OpenHold
 unfoldable pub openHold : HeldList → Judgement
 openHold h = firstReason (judgeHold h) 0 (used (h .list))
 
--- the list whose entries get sections and are stored: all of it
+-- the list whose entries get sections and are stored: that of the counted places
 unfoldable pub sectionList : HeldList → U32List
-sectionList h = h .list
+sectionList h = counted (h .list)
 
--- 15 "directly after 1 in fill, plan and write", then 2 to 5 entry by entry
+-- 15 "directly after 1 in fill, plan and write", at every used place, "left-out keys' too" (request 11); then 2 to 5 entry by entry
 unfoldable pub judgeHeld : HeldList → Judgement
 judgeHeld h = orElse (heldShape h) (orElse (openHold h) (judgeList (sectionList h)))
 

@@ -11,6 +11,7 @@ ghost use Rattle.isa.specs.Entries.{entryWords, entryWidth, admission};
 ghost use Rattle.list.specs.Lists.{u32List, keyAt, entryAt, listShape, countFull, judgeEntryBy};
 ghost use Rattle.list.specs.Heights.{judgedPlaces, judgedList};
 ghost use Rattle.list.specs.Keys.{sameKey, findFrom};
+ghost use Rattle.list.specs.Counted.{counted as Lists·counted};
 ghost use Rattle.list.specs.Holds.{heldList, heldShape, openHold, judgedHeld};
 ghost use Rattle.list.specs.Eights.{EightDiffer, otherWord};
 use field::BFieldElement;
@@ -282,6 +283,60 @@ fn open_hold(used: usize, holds: &[u64]) -> Judgement
     Judgement::Fine
 }
 
+// The places whose multiplicity is not 0, one after the other: their keys and multiplicities, from the front of the two arrays on. The answer is
+// the sizes of the list that they are.
+pub fn counted(
+    sizes: Sizes,
+    keys: &[u64],
+    multiplicities: &[u64],
+    to_keys: &mut [u64],
+    to_multiplicities: &mut [u64],
+) -> Sizes
+    requires { ⌜ (entryWidth * sizes .used ≤ length (now keys)) × (sizes .used ≤ length (now multiplicities)) ⌝ }
+    requires { ⌜ (entryWidth * sizes .used ≤ length (now «to_keys»)) × (sizes .used ≤ length (now «to_multiplicities»)) ⌝ }
+    ensures { λ r. ⌜ r ≡ Lists·counted (u32List sizes (now (keys .entry)) (now (multiplicities .entry))) .sizes ⌝ }
+    ensures { λ _. ⌜ now («to_keys» .exit) ≡ sets (now («to_keys» .entry)) 0 (Lists·counted (u32List sizes (now (keys .entry)) (now (multiplicities .entry))) .keys) ⌝ }
+    ensures { λ _. ⌜ now («to_multiplicities» .exit) ≡ sets (now («to_multiplicities» .entry)) 0 (Lists·counted (u32List sizes (now (keys .entry)) (now (multiplicities .entry))) .multiplicities) ⌝ }
+{
+    let used = sizes.used;
+    let mut n: usize = 0;
+    let mut place: usize = 0;
+    while place < used {
+        let multiplicity = multiplicities[place];
+        if multiplicity == 0 {
+            place += 1;
+            continue;
+        }
+        put_key(to_keys, n, key_at(keys, place));
+        to_multiplicities[n] = multiplicity;
+        n += 1;
+        place += 1;
+    }
+    Sizes {
+        capacity: n,
+        used: n,
+    }
+}
+
+// Reasons 2 to 5 entry by entry at the counted places, in a copy; where there is none, their height.
+fn judge_counted(sizes: Sizes, keys: &[u64], multiplicities: &[u64]) -> Judged
+    requires { ⌜ (sizes .used ≤ maxPlaces) × (entryWidth * sizes .used ≤ length (now keys)) × (sizes .used ≤ length (now multiplicities)) ⌝ }
+    ensures { λ r. ⌜ r ≡ judgedList (Lists·counted (u32List sizes (now (keys .entry)) (now (multiplicities .entry)))) ⌝ }
+{
+    let mut to_keys = [0u64; U32TableEntry::WIDTH * MAX_PLACES];
+    let mut to_multiplicities = [0u64; MAX_PLACES];
+    let copy = counted(
+        sizes,
+        keys,
+        multiplicities,
+        &mut to_keys,
+        &mut to_multiplicities,
+    );
+    let n = copy.used;
+    let end = U32TableEntry::WIDTH * n;
+    judge_list(copy, &to_keys[..end], &to_multiplicities[..n])
+}
+
 // Reasons 1 and 15, then 2 to 5 entry by entry; where there is none, the height of what gets sections.
 pub fn judge_held(sizes: Sizes, keys: &[u64], multiplicities: &[u64], holds: &[u64]) -> Judged
     ensures { λ r. ⌜ r ≡ judgedHeld (heldList sizes (now (keys .entry)) (now (multiplicities .entry)) (now (holds .entry))) ⌝ }
@@ -292,7 +347,7 @@ pub fn judge_held(sizes: Sizes, keys: &[u64], multiplicities: &[u64], holds: &[u
     if let Judgement::Declined(reason) = open_hold(sizes.used, holds) {
         return Judged::Refused(reason);
     }
-    judge_list(sizes, keys, multiplicities)
+    judge_counted(sizes, keys, multiplicities)
 }
 
 // Places `from` to `to` − 1 of an array that has a word a place become 0.

@@ -1,8 +1,10 @@
 -- The two round trips, over `writeAll` and `readAll`, which the contracts of writing and reading cite. That the second call does not refuse is a
 -- conclusion of each. What was written holds the list's entries and multiplicities, since these fit the bytes that are given to them; what was
--- read is the stored form of what the bytes hold, and none of it is held, so that writing it does not meet 15.
+-- read is the stored form of what the bytes hold, and none of it is held, so that writing it does not meet 15. Where no multiplicity is 0, every place
+-- that was read is counted, and all of it is written.
 use mathlib.Core.Path.{_≡_, refl, sym, ap, ap₂, _∙_}
 use mathlib.Core.Bool.{false}
+use mathlib.Core.Logic.{_≢_}
 use mathlib.Core.List.{List, [], _∷_, map, flatMap}
 use native.Mathlib.Decide.{ℕ-discrete}
 use Prim.Native.Nat.{ℕ, _≤_, _<_}
@@ -14,6 +16,7 @@ use Rattle.words.specs.Limits.{maxPlaces}
 use Rattle.words.specs.Answers.{Answer, done}
 use Rattle.words.specs.Outcomes.{Outcome}
 use Rattle.words.specs.declared.Judgement.the-variants.{Fine}
+use Rattle.words.specs.LittleEndian.{le}
 use Rattle.words.specs.Places.{places, placesFrom}
 use Rattle.words.proofs.Outcomes.{outcome-fine, outcome-done}
 use Rattle.words.proofs.Sets.{sets-front, take-sets-front, getD-sets-in}
@@ -21,15 +24,17 @@ use Rattle.words.proofs.Places.{map-cong, flat-cong}
 use Rattle.isa.specs.Entries.{admitStored, admitted}
 use Rattle.isa.proofs.Entries.{admissible-as-it-is, as-it-is}
 use Rattle.list.specs.Lists.{U32List, capacity, used, keyAt, multiplicityAt, entryAt, judgeList}
-use Rattle.list.specs.Heights.{sumHeights, listHeight}
-use Rattle.list.specs.Holds.{HeldList, holdAt, heldShape, openHold, sectionList, judgeHeld}
+use Rattle.list.specs.Heights.{sectionEntries, sumHeights, listHeight}
+use Rattle.list.specs.Counted.{counted}
+use Rattle.list.specs.Holds.{HeldList, holdAt, heldShape, sectionList, judgeHeld}
 use Rattle.list.proofs.JudgedLists.{list-admitted, admitted-fine, entry-admissible, list-height-small}
 use Rattle.list.proofs.HeldLists.{HeldShaped, held-shaped, held-shape-fine, closed, held-fine, held-judged}
+use Rattle.list.proofs.CountedLists.{fine-counted, all-used, all-entry, all-count, all-entries, all-height}
 use Rattle.list.proofs.Places.{section-entries-map}
-use Rattle.list_bytes.specs.Packed.{multiplicityWidth, widthOf, storedLength, storedBytes, storedN, storedHeight, storedEntry, storedMultiplicity, storedEntries}
+use Rattle.list_bytes.specs.Packed.{multiplicityWidth, keyBytes, widthOf, storedLength, storedBytes, storedN, storedHeight, storedEntry, storedMultiplicity, storedEntries}
 use Rattle.list_repeats.specs.Repeats.{repeats}
 use Rattle.list_stored.specs.Stored.{readReason, readAll, replacedList, replaced, writeReason, writeAll}
-use Rattle.list_round_trips.specs.RoundTrips.{ReadsBack, NewForm, WrittenAgain}
+use Rattle.list_round_trips.specs.RoundTrips.{ReadsBack, NewForm, NoneZero, WrittenAgain}
 use Rattle.list_bytes.proofs.StoredPlaces.{length-stored-places}
 use Rattle.list_stored.proofs.Reasons.{new-long, Readable, readable, readable-fine, writable, write-fine}
 use Rattle.list_bytes.proofs.Replaced.{keysOf, key-put, multiplicity-put}
@@ -96,6 +101,19 @@ height-sum : (l : U32List) → listHeight l ≡ sumHeights (map (entryAt l) (pla
 unfolding listHeight
 height-sum l = ap sumHeights (section-entries-map l)
 
+-- every place counts: the counted list has the same bytes
+all-bytes : (l : U32List) → ((i : ℕ) → i < used l → multiplicityAt l i ≢ 0) → storedBytes (counted l) ≡ storedBytes l
+all-bytes l f =
+    let m = counted l in
+    let K : keysForm (entryAt m) (used l) ≡ keysForm (entryAt l) (used l)
+    = flat-cong _ _ 0 (used l) (λ i p q. ap keyBytes (all-entry l f i (omega arith))) in
+    let C : countsForm multiplicityWidth (multiplicityAt m) (used l) ≡ countsForm multiplicityWidth (multiplicityAt l) (used l)
+    = flat-cong _ _ 0 (used l) (λ i p q. ap (le multiplicityWidth) (all-count l f i (omega arith))) in
+    stored-formed m
+    ∙ ap (λ (n : ℕ). formed multiplicityWidth (entryAt m) (multiplicityAt m) n (listHeight m)) (all-used l f)
+    ∙ rw (K, C, all-height l f) refl
+    ∙ sym (stored-formed l)
+
 -- ---- what was written reads back
 
 module _ (l : U32List) (fine : judgeList l ≡ Fine) where
@@ -126,12 +144,14 @@ module _ (l : U32List) (fine : judgeList l ≡ Fine) where
   stored-admitted : (i : ℕ) → i < used l → admitStored (entryAt l i) ≡ Fine
   stored-admitted i p = admissible-as-it-is (entryAt l i) (entry-admissible l fine i p)
 
-  module _ (none : repeats (map (entryAt l) (places (used l))) ≡ false) (to : HeldList) (sh : HeldShaped to) (room : used l ≤ capacity (to .list)) where
+  module _ (none : repeats (map (entryAt l) (places (used l))) ≡ false) (to : HeldList) (sh : HeldShaped to) (unused : used (to .list) ≡ 0)
+      (room : used l ≤ capacity (to .list)) where
     stored-readable : Readable to (storedBytes l)
     stored-readable = record {
       shape = sh;
       complete = record { few = rw stored-n few; long = new-long (storedBytes l) (length-stored l ∙ ap storedLength (sym stored-n)) };
       room = rw stored-n room;
+      none-used = unused;
       entries = λ i p. let q : i < used l = rw stored-n at p in rw (stored-entry i q) (stored-admitted i q);
       counts = λ i p. let q : i < used l = rw stored-n at p in rw (stored-multiplicity i q) (list-admitted l fine .multiplicity i q);
       distinct = rw stored-list none;
@@ -152,18 +172,18 @@ module _ (l : U32List) (fine : judgeList l ≡ Fine) where
           holds = λ i p. replaced-hold to (storedBytes l) r i (rw stored-n p);
         })
 
--- Writing has answered n: the first n bytes, read onto any list of right shape with room for the entries, give the same list
+-- Writing has answered n: the first n bytes, read onto any list of right shape with no key and room for the entries, give the counted list
 pub written-reads-back : (h to : HeldList) (out : List ℕ) (n : ℕ)
-    → writeAll h out .answer ≡ done (n ∷ []) → heldShape to ≡ Fine → used (sectionList h) ≤ capacity (to .list)
+    → writeAll h out .answer ≡ done (n ∷ []) → heldShape to ≡ Fine → used (to .list) ≡ 0 → used (sectionList h) ≤ capacity (to .list)
     → ReadsBack (sectionList h) (readAll to (take n (writeAll h out .left)))
-written-reads-back h to out n a sh room =
+written-reads-back h to out n a sh unused room =
     let e = write-answered h out n a in
     let w = writable h out e in
     let k = written-length h out n a in
     let l = sectionList h in
     let b : take n (writeAll h out .left) ≡ storedBytes l
     = rw (written-is h out e) (take-sets-front (storedBytes l) out n (length-stored l ∙ sym k) (omega (arith, w .room))) in
-    rw b (stored-reads l (held-judged h (w .judged)) (w .distinct) to (held-shaped to sh) room)
+    rw b (stored-reads l (held-judged h (w .judged)) (w .distinct) to (held-shaped to sh) unused room)
 
 -- ---- what was accepted is written again
 
@@ -190,14 +210,15 @@ module _ (h : HeldList) (s : List ℕ) (w : Readable h s) where
         multiplicity = λ i p. rw (replaced-multiplicity h s w i p) (w .counts i p);
       })
 
-  -- what gets sections of it is all of it
-  replaced-sections : sectionList (replaced h s) ≡ replacedList (h .list) s
+  -- what gets sections of it: its counted places
+  replaced-sections : sectionList (replaced h s) ≡ counted (replacedList (h .list) s)
   unfolding sectionList
   replaced-sections = refl
 
   replaced-judged : judgeHeld (replaced h s) ≡ Fine
   replaced-judged =
-      held-fine (replaced h s) (held-shape-fine (replaced h s) replaced-shape) (closed (replaced h s) (replaced-hold h s w)) (rw replaced-sections replaced-fine)
+      held-fine (replaced h s) (held-shape-fine (replaced h s) replaced-shape) (closed (replaced h s) (replaced-hold h s w))
+      (rw replaced-sections (fine-counted (replacedList (h .list) s) replaced-fine))
 
   replaced-height : listHeight (replacedList (h .list) s) ≡ storedHeight s
   replaced-height = height-sum (replacedList (h .list) s) ∙ ap sumHeights (replaced-entries h s w) ∙ sym (w .tallied)
@@ -215,13 +236,39 @@ module _ (h : HeldList) (s : List ℕ) (w : Readable h s) where
   replaced-distinct : repeats (map (entryAt (replacedList (h .list) s)) (places (storedN s))) ≡ false
   replaced-distinct = ap repeats (replaced-entries h s w) ∙ w .distinct
 
-  -- no reason is left against writing it, 15 neither
-  replaced-written : (out : List ℕ) → storedLength (storedN s) ≤ length out → writeReason (replaced h s) out ≡ Fine
-  replaced-written out r = write-fine (replaced h s) out replaced-judged (rw replaced-sections replaced-distinct) (rw replaced-sections r)
+  module _ (none : NoneZero s) where
+    each-counted : (i : ℕ) → i < storedN s → multiplicityAt (replacedList (h .list) s) i ≢ 0
+    each-counted i p e = none i p (sym (replaced-multiplicity h s w i p) ∙ e)
+
+    sections-used : used (sectionList (replaced h s)) ≡ storedN s
+    sections-used = ap (λ (l : U32List). used l) replaced-sections ∙ all-used (replacedList (h .list) s) each-counted
+
+    sections-bytes : storedBytes (sectionList (replaced h s)) ≡ storedBytes (replacedList (h .list) s)
+    sections-bytes = ap storedBytes replaced-sections ∙ all-bytes (replacedList (h .list) s) each-counted
+
+    sections-distinct : repeats (map (entryAt (sectionList (replaced h s))) (places (used (sectionList (replaced h s))))) ≡ false
+    sections-distinct =
+        ap repeats
+        (sym (section-entries-map (sectionList (replaced h s)))
+        ∙ ap (λ (l : U32List). sectionEntries l) replaced-sections
+        ∙ all-entries (replacedList (h .list) s) each-counted
+        ∙ section-entries-map (replacedList (h .list) s))
+        ∙ replaced-distinct
+
+    -- no reason is left against writing it, 15 neither
+    replaced-written : (out : List ℕ) → storedLength (storedN s) ≤ length out → writeReason (replaced h s) out ≡ Fine
+    replaced-written out r = write-fine (replaced h s) out replaced-judged sections-distinct (rw sections-used r)
+
+    -- all of it is written
+    again-is : (out : List ℕ) → storedLength (storedN s) ≤ length out
+        → writeAll (replaced h s) out ≡ record { answer = done (storedLength (storedN s) ∷ []); left = sets out 0 (storedBytes (replacedList (h .list) s)) }
+    again-is out r =
+        written-is (replaced h s) out (replaced-written out r)
+        ∙ ap₂ (λ (n : ℕ) (b : List ℕ). record { answer = done (storedLength n ∷ []); left = sets out 0 b }) sections-used sections-bytes
 
   -- they hold the list that s holds
   again-readable : Readable h (storedBytes (replacedList (h .list) s))
-  again-readable = stored-readable (replacedList (h .list) s) replaced-fine replaced-distinct h (w .shape) (w .room)
+  again-readable = stored-readable (replacedList (h .list) s) replaced-fine replaced-distinct h (w .shape) (w .none-used) (w .room)
 
   again-list : replaced h (storedBytes (replacedList (h .list) s)) ≡ replaced h s
   again-list =
@@ -259,18 +306,18 @@ module _ (h : HeldList) (s : List ℕ) (bytes : (j : ℕ) → getD s j 0 < 256) 
         same-bytes = replaced-bytes;
       }
 
--- Reading has answered n: the list that it left is written in the new form, wherever there is room for it
+-- Reading has answered n, and no multiplicity is 0: the list that it left is written in the new form, wherever there is room for it
 pub read-writes-back : (h : HeldList) (s out : List ℕ) (n : ℕ) → ((j : ℕ) → getD s j 0 < 256)
-    → readAll h s .answer ≡ done (n ∷ []) → storedLength (storedN s) ≤ length out
+    → readAll h s .answer ≡ done (n ∷ []) → NoneZero s → storedLength (storedN s) ≤ length out
     → (t : List ℕ) × NewForm h s t × WrittenAgain t out (writeAll (readAll h s .left) out)
-read-writes-back h s out n bytes a room =
+read-writes-back h s out n bytes a none room =
     let e = read-answered h s n a in
     let w = readable h s e in
     let t = storedBytes (replacedList (h .list) s) in
     let k = length-stored (replacedList (h .list) s) in (
       t,
       new-form h s bytes w,
-      rw (read-is h s e, written-is (replaced h s) out (replaced-written h s w out room), replaced-sections h s w)
+      rw (read-is h s e, again-is h s w none out room)
           (record { answer = ap (λ (k : ℕ). done (k ∷ [])) (sym k); bytes = sets-front t out (omega arith) }),
     )
 

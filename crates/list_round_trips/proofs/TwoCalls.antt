@@ -19,7 +19,7 @@ use Rattle.list_stored.specs.Stored.{readReason, readAll, readAnswer, writeReas
 use Rattle.list_round_trips.specs.RoundTrips.{writeThenRead, IsWrittenThenRead, readThenWrite, IsReadThenWritten}
 use Rattle.list_bytes.proofs.StoredPlaces.{length-stored-places}
 use Rattle.list_stored.proofs.Reasons.{writable}
-use Rattle.list_round_trips.proofs.RoundTrips.{read-answered, write-answered, read-is, written-is, written-length, written-reads-back, read-writes-back}
+use Rattle.list_round_trips.proofs.RoundTrips.{read-answered, write-answered, written-is, written-length, written-reads-back, read-writes-back}
 
 module _ (h : HeldList) (out : List ℕ) where
   pub written-within : (n : ℕ) (after : List ℕ) → Leaves (writeAll h out) (writtenAnswer (Length n)) after → n ≤ length after
@@ -51,8 +51,8 @@ module _ (h : HeldList) (out : List ℕ) where
         record {
           exact = rw (unless-fine to _ e, ← f) d;
           bytes = w .left;
-          law = λ _ sh room.
-              let b = rw (← w .left) at (written-reads-back h to out n (sym (w .answer)) sh room) in
+          law = λ _ sh none room.
+              let b = rw (← w .left) at (written-reads-back h to out n (sym (w .answer)) sh none room) in
               record { answer = d .answer ∙ b .answer; list = rw (d .left) (b .list); holds = rw (d .left) (b .holds) };
         }
 
@@ -75,7 +75,7 @@ module _ (h : HeldList) (s out : List ℕ) where
       record {
         exact = rw (unless-fine out _ e) v;
         list = d .left;
-        law = λ _ room.
-            let a = read-writes-back h s out n b (sym (d .answer)) room in
+        law = λ _ none room.
+            let a = read-writes-back h s out n b (sym (d .answer)) none room in
             (a .0, a .1, record { answer = v .answer ∙ a .2 .answer; bytes = v .left ∙ a .2 .bytes });
       }

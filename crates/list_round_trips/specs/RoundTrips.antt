@@ -1,7 +1,8 @@
--- The two round trips of stored lists: what was written reads back as the same list, and what was accepted is written again in the new form, to the
--- same bytes where it has that form. Holds are "not stored in files": what reads back has none.
+-- The two round trips of stored lists: what was written reads back as the counted keys with their counts, and what was accepted, without a
+-- multiplicity 0, is written again in the new form, to the same bytes where it has that form. Holds are "not stored in files": what reads back has none.
 use Prim.Native.Nat.{ℕ, _≤_, _<_}
 use mathlib.Core.Path.{_≡_}
+use mathlib.Core.Logic.{_≢_}
 use mathlib.Core.List.{List, [], _∷_, _++_}
 use lib.ListN.{length, take, drop}
 use Rattle.words.specs.Answers.{done}
@@ -9,7 +10,7 @@ use Rattle.words.specs.Outcomes.{Outcome, Leaves, unlessDeclined}
 use Rattle.words.specs.declared.Judgement.the-variants.{Fine}
 use Rattle.list.specs.Lists.{U32List, capacity, used, keyAt, entryAt, multiplicityAt}
 use Rattle.list.specs.Holds.{HeldList, holdAt, heldShape, sectionList}
-use Rattle.list_bytes.specs.Packed.{storedPlaces, storedLength, storedN}
+use Rattle.list_bytes.specs.Packed.{storedPlaces, storedLength, storedN, storedMultiplicity}
 use Rattle.list_stored.specs.Stored.{readReason, readAll, readAnswer, writeReason, writeAll, writtenAnswer}
 use Rattle.list_stored.specs.declared.Read.{Read}
 use Rattle.list_stored.specs.declared.Written.{Written}
@@ -44,21 +45,26 @@ unfoldable pub writeThenRead : HeldList → List ℕ → HeldList → Outcome He
 writeThenRead h out to =
     unlessDeclined (writeReason h out) to (readAll to (take (storedLength (length (storedPlaces (sectionList h)))) (writeAll h out .left)))
 
--- What both calls leave, and the law: a list that is not refused reads back, onto any list of right shape with room for it
+-- What both calls leave, and the law: a list that is not refused reads back as the list of its counted keys, onto any list of right shape that has no
+-- key, and room for it
 pub record IsWrittenThenRead (h : HeldList) (out : List ℕ) (to : HeldList) (r : Read) (outAfter : List ℕ) (after : HeldList) : Type 0 where
   pub exact : Leaves (writeThenRead h out to) (readAnswer r) after
   pub bytes : outAfter ≡ writeAll h out .left
-  pub law : writeReason h out ≡ Fine → heldShape to ≡ Fine → used (sectionList h) ≤ capacity (to .list)
+  pub law : writeReason h out ≡ Fine → heldShape to ≡ Fine → used (to .list) ≡ 0 → used (sectionList h) ≤ capacity (to .list)
       → ReadsBack (sectionList h) (record { answer = readAnswer r; left = after })
 
 -- Reading the bytes s onto the list h, then writing the list to `out`; nothing is written where reading refuses
 unfoldable pub readThenWrite : HeldList → List ℕ → List ℕ → Outcome (List ℕ)
 readThenWrite h s out = unlessDeclined (readReason h s) out (writeAll (readAll h s .left) out)
 
--- What both calls leave, and the law: bytes that are not refused are written again in the new form, wherever there is room for it, whatever holds
--- were open before
+-- "without a key of multiplicity 0"
+abbrev pub NoneZero : List ℕ → Type 0
+NoneZero s = (i : ℕ) → i < storedN s → storedMultiplicity s i ≢ 0
+
+-- What both calls leave, and the law: bytes that are not refused, without a key of multiplicity 0, are written again in the new form, wherever there is
+-- room for it, whatever words stood in the holds before
 pub record IsReadThenWritten (h : HeldList) (s out : List ℕ) (r : Written) (after : HeldList) (outAfter : List ℕ) : Type 0 where
   pub exact : Leaves (readThenWrite h s out) (writtenAnswer r) outAfter
   pub list : after ≡ readAll h s .left
-  pub law : readReason h s ≡ Fine → storedLength (storedN s) ≤ length out
+  pub law : readReason h s ≡ Fine → NoneZero s → storedLength (storedN s) ≤ length out
       → (t : List ℕ) × NewForm h s t × WrittenAgain t out (record { answer = writtenAnswer r; left = outAfter })

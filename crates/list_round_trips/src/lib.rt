@@ -1,5 +1,6 @@
-// The two round trips of stored lists, as two calls each: what was written reads back as the same list, and what was accepted is written again
-// in the new form, to the same bytes where it has that form. Where the first call refuses, the second is not made.
+// The two round trips of stored lists, as two calls each: what was written reads back as the counted keys with their counts, and what was accepted,
+// without a multiplicity 0, is written again in the new form, to the same bytes where it has that form. Where the first call refuses, the second is
+// not made.
 ghost use Rattle.list.specs.Holds.{heldList};
 ghost use Rattle.list_round_trips.specs.RoundTrips.{IsWrittenThenRead, IsReadThenWritten};
 use list::Sizes;

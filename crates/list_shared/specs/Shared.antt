@@ -18,6 +18,7 @@ use Rattle.list.specs.Lists.{capacity, used}
 use Rattle.list.specs.Holds.{HeldList}
 use Rattle.list_record.specs.Recording.{recordAll, holdAll}
 use Rattle.list_replay.specs.Replay.{replayAll}
+use Rattle.list_stored.specs.Stored.{readAll}
 
 -- the other recorder's arrays
 pub record Counts : Type 0 where
@@ -64,3 +65,7 @@ holdShared h other e = beside (declined Shape) (holdAll h e) h other
 -- "1 comes before all steps, with none done"
 unfoldable pub replayShared : HeldList → Counts → (trace : List ℕ) → Outcome Shared
 replayShared h other trace = beside (record { number = refusalNumber Shape; values = 0 ∷ [] }) (replayAll h trace) h other
+
+-- reading brings N places into use, of which "reading onto a list with keys meets 6" lets none be in use before
+unfoldable pub readShared : HeldList → Counts → (bytes : List ℕ) → Outcome Shared
+readShared h other bytes = beside (declined Shape) (readAll h bytes) h other

@@ -8,9 +8,11 @@ use Prim.Native.Nat.{ℕ, _-_, _≤_, _<_, zero-le}
 use native.Mathlib.Nat.{zero-add, sub-zero}
 use native.Mathlib.Omega.{arith}
 use borrow.Author.Tests.{ltb-false, lt-ltb, le-ltb, eqb-true, eq-eqb, ne-eqb}
-use lib.Dec.{eqb}
+use lib.Dec.{eqb, ltb}
 use lib.ListN.{length, replicate}
 use lib.Seq.{sets}
+use Rattle.words.specs.Answers.{Answer}
+use Rattle.words.specs.declared.Judgement.{Judgement}
 use Rattle.words.specs.declared.Judgement.the-variants.{Fine, Declined}
 use Rattle.words.specs.declared.Refusal.{Refusal}
 use Rattle.words.specs.declared.Refusal.the-variants.{CountFull, ListFull, Short, Torn, Repeat, Tally}
@@ -19,17 +21,18 @@ use Rattle.words.specs.Outcomes.{Leaves}
 use Rattle.words.specs.Places.{places}
 use Rattle.words.proofs.Judgements.{or-first, or-next, or-both, decline-fine, decline-true, decline-false, decline-not-fine, first-fine, first-none}
 use Rattle.isa.specs.Entries.{entryWords, admitStored}
-use Rattle.list.specs.Lists.{capacity, used, entryAt, countFull, judgeEntryBy}
+use Rattle.list.specs.Lists.{U32List, capacity, used, entryAt, countFull, judgeEntryBy}
 use Rattle.list.specs.Heights.{sumHeights, listHeight}
-use Rattle.list.specs.Holds.{HeldList, heldList, heldShape, sectionList, judgeHeld}
-use Rattle.list.proofs.HeldLists.{HeldShaped, held-shaped, held-shape-fine}
+use Rattle.list.specs.declared.Judged.the-variants.{Height}
+use Rattle.list.specs.Holds.{HeldList, heldList, heldShape, sectionList, judgeHeld, judgedHeld}
+use Rattle.list.proofs.HeldLists.{HeldShaped, held-shaped, held-shape-fine, held-told, held-height}
 use Rattle.list_stored.specs.declared.Read.the-variants.{Entries, Refused}
 use Rattle.list_stored.specs.declared.Written.the-variants.{Length, Refused as WriteRefused}
 use Rattle.list_bytes.specs.Packed.{headWidth, storedPlaces, lengthWith, storedLength, oldLength, widthOf, bytesWith, storedBytes}
 use Rattle.list_bytes.specs.Packed.{storedN, storedHeight, storedEntry, storedMultiplicity, storedEntries}
 use Rattle.list_repeats.specs.Repeats.{repeats}
 use Rattle.list_stored.specs.Stored.{torn, judgeStored, tally, contentReason, readReason, readAll, readAnswer}
-use Rattle.list_stored.specs.Stored.{storingReason, writeReason, writeAll, writtenAnswer}
+use Rattle.list_stored.specs.Stored.{storingReason, writeReason, storedAs, writeAll, writtenAnswer}
 use Rattle.list_bytes.proofs.StoredPlaces.{length-stored-places, stored-entries}
 use Rattle.list_bytes.proofs.Format.{width-old, width-other}
 use Rattle.list_repeats.proofs.Repeats.{or-true}
@@ -118,6 +121,7 @@ pub record Readable (h : HeldList) (s : List ℕ) : Type 0 where
   pub shape : HeldShaped h
   pub complete : Whole s
   pub room : storedN s ≤ capacity (h .list)
+  pub none-used : used (h .list) ≡ 0
   pub entries : (i : ℕ) → i < storedN s → admitStored (storedEntry s i) ≡ Fine
   pub counts : (i : ℕ) → i < storedN s → storedMultiplicity s i ≤ multiplicityLimit
   pub distinct : repeats (storedEntries s) ≡ false
@@ -131,22 +135,35 @@ readable h s e =
     let c = or-both _ _ (b .1) in
     let d = or-both _ _ (c .1) in
     let f = or-both _ _ (d .1) in
+    let full = both-false (ltb (capacity (h .list)) (storedN s)) _ (decline-fine _ ListFull (c .0)) in
     record {
       shape = held-shaped h (a .0);
       complete = whole s (b .0);
-      room = ltb-false (capacity (h .list)) (storedN s) (decline-fine _ ListFull (c .0));
+      room = ltb-false (capacity (h .list)) (storedN s) (full .0);
+      none-used = let n = ltb-false 0 (used (h .list)) (full .1) in omega arith;
       entries = λ i k. stored-told s i (first-fine (judgeStored s) 0 (storedN s) (d .0) i zero-le (rw zero-add k)) .0;
       counts = λ i k. stored-told s i (first-fine (judgeStored s) 0 (storedN s) (d .0) i zero-le (rw zero-add k)) .1;
       distinct = decline-fine _ Repeat (f .0);
       tallied = eqb-true (storedHeight s) (sumHeights (storedEntries s)) (decline-not-fine _ Tally (f .1));
     }
 
+-- 6: too many entries, or keys in the list
+module _ (h : HeldList) (s : List ℕ) where
+  too-many : capacity (h .list) < storedN s → (ltb (capacity (h .list)) (storedN s) || ltb 0 (used (h .list))) ≡ true
+  too-many k = rw (lt-ltb (capacity (h .list)) (storedN s) k)
+
+  has-keys : 0 < used (h .list) → (ltb (capacity (h .list)) (storedN s) || ltb 0 (used (h .list))) ≡ true
+  has-keys k = rw (lt-ltb 0 (used (h .list)) k) (or-true (ltb (capacity (h .list)) (storedN s)))
+
+  has-room : storedN s ≤ capacity (h .list) → used (h .list) ≡ 0 → (ltb (capacity (h .list)) (storedN s) || ltb 0 (used (h .list))) ≡ false
+  has-room k n = rw (le-ltb (capacity (h .list)) (storedN s) k, le-ltb 0 (used (h .list)) (omega arith))
+
 pub readable-fine : (h : HeldList) (s : List ℕ) → Readable h s → readReason h s ≡ Fine
 unfolding readReason contentReason tally
 readable-fine h s w =
     or-next _ (held-shape-fine h (w .shape))
     ∙ or-next _ (whole-fine s (w .complete))
-    ∙ or-next _ (decline-false ListFull (le-ltb (capacity (h .list)) (storedN s) (w .room)))
+    ∙ or-next _ (decline-false ListFull (has-room h s (w .room) (w .none-used)))
     ∙ or-next _ (first-none _ 0 (storedN s) (λ i p q. stored-fine s i (w .entries i (omega arith)) (w .counts i (omega arith))))
     ∙ or-next _ (decline-false Repeat (w .distinct))
     ∙ rw (eq-eqb (storedHeight s) (sumHeights (storedEntries s)) (w .tallied))
@@ -162,13 +179,19 @@ module _ (h : HeldList) (s : List ℕ) where
     unfolding readReason
     read-torn e = or-next _ sh ∙ or-first _ e
 
-    pub read-full : torn s ≡ Fine → capacity (h .list) < storedN s → readReason h s ≡ Declined ListFull
-    unfolding readReason
-    read-full e k = or-next _ sh ∙ or-next _ e ∙ or-first _ (decline-true ListFull (lt-ltb (capacity (h .list)) (storedN s) k))
+    module _ (e : torn s ≡ Fine) where
+      pub read-full : capacity (h .list) < storedN s → readReason h s ≡ Declined ListFull
+      unfolding readReason
+      read-full k = or-next _ sh ∙ or-next _ e ∙ or-first _ (decline-true ListFull (too-many h s k))
 
-    pub read-content : torn s ≡ Fine → storedN s ≤ capacity (h .list) → readReason h s ≡ contentReason s
-    unfolding readReason
-    read-content e k = or-next _ sh ∙ or-next _ e ∙ or-next _ (decline-false ListFull (le-ltb (capacity (h .list)) (storedN s) k))
+      -- "reading onto a list with keys meets 6"
+      pub read-used : 0 < used (h .list) → readReason h s ≡ Declined ListFull
+      unfolding readReason
+      read-used k = or-next _ sh ∙ or-next _ e ∙ or-first _ (decline-true ListFull (has-keys h s k))
+
+      pub read-content : storedN s ≤ capacity (h .list) → used (h .list) ≡ 0 → readReason h s ≡ contentReason s
+      unfolding readReason
+      read-content k n = or-next _ sh ∙ or-next _ e ∙ or-next _ (decline-false ListFull (has-room h s k n))
 
   -- what is due then
   pub read-refused : {k : Refusal} → readReason h s ≡ Declined k → Leaves (readAll h s) (readAnswer (Refused k)) h
@@ -202,39 +225,62 @@ writable h out e =
       room = rw length-stored-places at r;
     }
 
--- reason by reason
+-- reason by reason, of the list that is stored
+module _ (l : U32List) (out : List ℕ) where
+  pub store-repeat : repeats (map (entryAt l) (places (used l))) ≡ true → storingReason l out ≡ Declined Repeat
+  unfolding storingReason
+  store-repeat e = or-first _ (decline-true Repeat (ap repeats (stored-entries l) ∙ e))
+
+  module _ (none : repeats (map (entryAt l) (places (used l))) ≡ false) where
+    pub store-short : length out < storedLength (used l) → storingReason l out ≡ Declined Short
+    unfolding storingReason
+    store-short k =
+        or-next _ (decline-false Repeat (ap repeats (stored-entries l) ∙ none))
+        ∙ rw (length-stored-places l, lt-ltb (length out) (storedLength (used l)) k)
+
+    pub store-fine : storedLength (used l) ≤ length out → storingReason l out ≡ Fine
+    unfolding storingReason
+    store-fine k =
+        or-next _ (decline-false Repeat (ap repeats (stored-entries l) ∙ none))
+        ∙ rw (length-stored-places l, le-ltb (length out) (storedLength (used l)) k)
+
+  -- what is due then
+  module _ (reason : Judgement) where
+    pub stored-refused : {k : Refusal} → reason ≡ Declined k → Leaves (storedAs reason l out) (writtenAnswer (WriteRefused k)) out
+    stored-refused e = rw e (record { answer = refl; left = refl })
+
+    pub stored-done : (n m : ℕ) (after : List ℕ) → reason ≡ Fine → n ≡ storedLength (used l) → m ≡ listHeight l
+        → after ≡ sets out 0 (bytesWith m l) → Leaves (storedAs reason l out) (writtenAnswer (Length n)) after
+    unfolding storedBytes
+    stored-done n m after e en em eb = rw (e, length-stored-places l, en, eb, em) (record { answer = refl; left = refl })
+
+-- of the list with its holds: where `judge_held` answers a height, its places are within the arrays, and those are few
+pub height-shaped : (h : HeldList) (n : ℕ) → Height n ≡ judgedHeld h → HeldShaped h
+height-shaped h n e = held-shaped h (held-told h (held-height h n e .0) .0)
+
+pub height-few : (h : HeldList) (n : ℕ) → Height n ≡ judgedHeld h → used (h .list) ≤ maxPlaces
+height-few h n e = let s = height-shaped h n e .list in omega (arith, s .small, s .within)
+
 module _ (h : HeldList) (out : List ℕ) where
   pub write-judged : {k : Refusal} → judgeHeld h ≡ Declined k → writeReason h out ≡ Declined k
   unfolding writeReason
   write-judged e = or-first _ e
 
-  module _ (fine : judgeHeld h ≡ Fine) where
-    pub write-repeat : repeats (map (entryAt (sectionList h)) (places (used (sectionList h)))) ≡ true → writeReason h out ≡ Declined Repeat
-    unfolding writeReason storingReason
-    write-repeat e = or-next _ fine ∙ or-first _ (decline-true Repeat (ap repeats (stored-entries (sectionList h)) ∙ e))
-
-    module _ (none : repeats (map (entryAt (sectionList h)) (places (used (sectionList h)))) ≡ false) where
-      pub write-short : length out < storedLength (used (sectionList h)) → writeReason h out ≡ Declined Short
-      unfolding writeReason storingReason
-      write-short k =
-          or-next _ fine
-          ∙ or-next _ (decline-false Repeat (ap repeats (stored-entries (sectionList h)) ∙ none))
-          ∙ rw (length-stored-places (sectionList h), lt-ltb (length out) (storedLength (used (sectionList h))) k)
-
-      pub write-fine : storedLength (used (sectionList h)) ≤ length out → writeReason h out ≡ Fine
-      unfolding writeReason storingReason
-      write-fine k =
-          or-next _ fine
-          ∙ or-next _ (decline-false Repeat (ap repeats (stored-entries (sectionList h)) ∙ none))
-          ∙ rw (length-stored-places (sectionList h), le-ltb (length out) (storedLength (used (sectionList h))) k)
-
-  -- what is due then
-  pub written-refused : {k : Refusal} → writeReason h out ≡ Declined k → Leaves (writeAll h out) (writtenAnswer (WriteRefused k)) out
+  pub write-refused : {k : Refusal} → judgeHeld h ≡ Declined k → Leaves (writeAll h out) (writtenAnswer (WriteRefused k)) out
   unfolding writeAll
-  written-refused e = rw e (record { answer = refl; left = refl })
+  write-refused e = stored-refused (sectionList h) out (writeReason h out) (write-judged e)
 
-  pub written-done : (n m : ℕ) (after : List ℕ) → writeReason h out ≡ Fine → n ≡ storedLength (used (sectionList h)) → m ≡ listHeight (sectionList h)
-      → after ≡ sets out 0 (bytesWith m (sectionList h)) → Leaves (writeAll h out) (writtenAnswer (Length n)) after
-  unfolding writeAll storedBytes
-  written-done n m after e en em eb =
-      rw (e, length-stored-places (sectionList h), en, eb, em) (record { answer = refl; left = refl })
+  module _ (fine : judgeHeld h ≡ Fine) where
+    -- what is left is the list that is stored
+    pub write-reason : writeReason h out ≡ storingReason (sectionList h) out
+    unfolding writeReason
+    write-reason = or-next _ fine
+
+    pub write-fine : repeats (map (entryAt (sectionList h)) (places (used (sectionList h)))) ≡ false → storedLength (used (sectionList h)) ≤ length out
+        → writeReason h out ≡ Fine
+    write-fine none k = write-reason ∙ store-fine (sectionList h) out none k
+
+    pub write-stores : (l : U32List) → l ≡ sectionList h → {given : Answer} {after : List ℕ}
+        → Leaves (storedAs (storingReason l out) l out) given after → Leaves (writeAll h out) given after
+    unfolding writeAll
+    write-stores l e w = rw (write-reason, ← e) w

@@ -14,7 +14,7 @@ use Rattle.words.specs.declared.Judgement.{Judgement}
 use Rattle.words.specs.declared.Refusal.the-variants.{ListFull, Short, Torn, Repeat, Tally}
 use Rattle.words.specs.Places.{places}
 use Rattle.isa.specs.Entries.{entryWords}
-use Rattle.list.specs.Lists.{U32List, u32List, capacity, judgeCounted}
+use Rattle.list.specs.Lists.{U32List, u32List, capacity, used, judgeCounted}
 use Rattle.list.specs.Heights.{entriesAt, sumHeights}
 use Rattle.list.specs.Holds.{HeldList, heldShape, sectionList, judgeHeld}
 use Rattle.list_bytes.specs.Packed.{storedPlaces, storedLength, oldLength, storedBytes, storedN, storedHeight, storedEntry, storedMultiplicity, storedEntries}
@@ -48,15 +48,16 @@ contentReason s =
     (orElse (declineIf (repeats (storedEntries s)) Repeat)
     (tally s))
 
--- "Read 1, 10, 6, then 2 to 5 entry by entry, 11, 12"; 6 is "on reading, N over the capacity". An open hold is no reason
+-- "Read 1, 10, 6, then 2 to 5 entry by entry, 11, 12"; 6 is "on reading, N over the capacity", and "reading onto a list with keys meets 6, in its
+-- usual place" (request 11), also where N is 0. An open hold is no reason
 unfoldable pub readReason : HeldList → List ℕ → Judgement
 readReason h s =
     orElse (heldShape h)
     (orElse (torn s)
-    (orElse (declineIf (ltb (capacity (h .list)) (storedN s)) ListFull)
+    (orElse (declineIf (ltb (capacity (h .list)) (storedN s) || ltb 0 (used (h .list))) ListFull)
     (contentReason s)))
 
--- "Reading replaces the list, sets used to N and answers N .. Destination places past N .. are untouched."
+-- "Reading .. sets used to N and answers N .. Destination places past N .. are untouched." It replaces nothing any more: no place was in use
 abbrev pub replacedList : U32List → List ℕ → U32List
 replacedList l s =
     u32List (record { capacity = capacity l; used = storedN s })
@@ -85,10 +86,13 @@ storingReason l out =
 unfoldable pub writeReason : HeldList → List ℕ → Judgement
 writeReason h out = orElse (judgeHeld h) (storingReason (sectionList h) out)
 
--- "writing .. answers the length. .. bytes past the end, are untouched."
+-- "writing .. answers the length. .. bytes past the end, are untouched.": what is due for a list, unless there is this reason
+abbrev pub storedAs : Judgement → U32List → List ℕ → Outcome (List ℕ)
+storedAs reason l out = outcome reason (storedLength (length (storedPlaces l)) ∷ []) out (sets out 0 (storedBytes l))
+
+-- "Stored lists carry one pad's counted keys" (request 11)
 unfoldable pub writeAll : HeldList → List ℕ → Outcome (List ℕ)
-writeAll h out =
-    outcome (writeReason h out) (storedLength (length (storedPlaces (sectionList h))) ∷ []) out (sets out 0 (storedBytes (sectionList h)))
+writeAll h out = storedAs (writeReason h out) (sectionList h) out
 
 -- what the answer of a writing means
 abbrev pub writtenAnswer : Written → Answer

@@ -1,12 +1,15 @@
 // Stored lists: reading bytes into a list, writing a list as bytes. What is wrong is refused with its reason, and then nothing lent changes.
 ghost use mathlib.Core.Path.{_≡_};
-ghost use Prim.Native.Nat.{_≤_};
+ghost use Prim.Native.Nat.{_*_, _≤_};
 ghost use lib.ListN.{length};
 ghost use Rattle.words.specs.Limits.{maxPlaces};
 ghost use Rattle.words.specs.Outcomes.{Leaves};
+ghost use Rattle.isa.specs.Entries.{entryWidth};
+ghost use Rattle.list.specs.Lists.{u32List};
+ghost use Rattle.list.specs.Heights.{listHeight};
 ghost use Rattle.list.specs.Holds.{heldList};
 ghost use Rattle.list_bytes.specs.Packed.{lengthWith, widthOf, storedLength, oldLength, storedN};
-ghost use Rattle.list_stored.specs.Stored.{contentReason, readReason, readAll, readAnswer, writeAll, writtenAnswer};
+ghost use Rattle.list_stored.specs.Stored.{contentReason, readReason, readAll, readAnswer, storingReason, storedAs, writeAll, writtenAnswer};
 ghost use Rattle.list_stored.specs.Stored.{torn as Stored·torn};
 use isa::U32TableEntry;
 use list::Judged;
@@ -109,10 +112,13 @@ fn judge_reading(
     if sizes.capacity < n {
         return Judgement::Declined(Refusal::ListFull);
     }
+    if 0 < sizes.used {
+        return Judgement::Declined(Refusal::ListFull);
+    }
     judge_content(bytes, n)
 }
 
-// Reads stored bytes: they replace the list, none of them held, and the answer is the number of entries.
+// Reads stored bytes onto a list that has no key: they become the list, none of them held, and the answer is the number of entries.
 pub fn read_list(
     bytes: &[u8],
     sizes: Sizes,
@@ -142,7 +148,25 @@ pub fn read_list(
     }
 }
 
-// Writes a list as stored bytes, and answers their number.
+// Stores the bytes of a list that is judged fine and has this height, and answers their number: reason 11, then 7.
+fn store(sizes: Sizes, height: u64, keys: &[u64], multiplicities: &[u64], out: &mut [u8]) -> Written
+    requires { ⌜ (sizes .used ≤ maxPlaces) × (entryWidth * sizes .used ≤ length (now keys)) × (sizes .used ≤ length (now multiplicities)) ⌝ }
+    requires { ⌜ height ≡ listHeight (u32List sizes (now keys) (now multiplicities)) ⌝ }
+    ensures { λ r. ⌜ Leaves (storedAs (storingReason (u32List sizes (now (keys .entry)) (now (multiplicities .entry))) (now (out .entry))) (u32List sizes (now (keys .entry)) (now (multiplicities .entry))) (now (out .entry))) (writtenAnswer r) (now (out .exit)) ⌝ }
+{
+    let n = sizes.used;
+    if list_repeats::has_repeats(keys, n) {
+        return Written::Refused(Refusal::Repeat);
+    }
+    let length = stored_length(n);
+    if out.len() < length {
+        return Written::Refused(Refusal::Short);
+    }
+    list_bytes::put_list(sizes, height, keys, multiplicities, out);
+    Written::Length(length)
+}
+
+// Writes a list's counted keys as stored bytes, and answers their number. They are gathered in a copy.
 pub fn write_list(
     sizes: Sizes,
     keys: &[u64],
@@ -155,16 +179,18 @@ pub fn write_list(
     match list::judge_held(sizes, keys, multiplicities, holds) {
         Judged::Refused(reason) => Written::Refused(reason),
         Judged::Height(height) => {
-            let n = sizes.used;
-            if list_repeats::has_repeats(keys, n) {
-                return Written::Refused(Refusal::Repeat);
-            }
-            let length = stored_length(n);
-            if out.len() < length {
-                return Written::Refused(Refusal::Short);
-            }
-            list_bytes::put_list(sizes, height, keys, multiplicities, out);
-            Written::Length(length)
+            let mut to_keys = [0u64; U32TableEntry::WIDTH * MAX_PLACES];
+            let mut to_multiplicities = [0u64; MAX_PLACES];
+            let copy = list::counted(
+                sizes,
+                keys,
+                multiplicities,
+                &mut to_keys,
+                &mut to_multiplicities,
+            );
+            let n = copy.used;
+            let end = U32TableEntry::WIDTH * n;
+            store(copy, height, &to_keys[..end], &to_multiplicities[..n], out)
         }
     }
 }

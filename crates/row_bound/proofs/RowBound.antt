@@ -116,7 +116,7 @@ no-shorter table aux challenges e es own o =
     let total = heights-sum es in
     omega arith
 
--- the height that fill answers is the list's
+-- the height that fill answers is that of the list that gets sections
 filled-height : (held : HeldList) (table : List ℕ) (h : ℕ) → fillAll held table .answer ≡ done (h ∷ []) → h ≡ listHeight (sectionList held)
 unfolding fillAll
 filled-height held table h e =

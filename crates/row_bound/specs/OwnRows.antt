@@ -37,13 +37,15 @@ abbrev pub NoShorter : (table aux challenges : List ℕ) → Type 0
 NoShorter table aux challenges =
     checkAll table aux challenges ≡ zeroAnswer → (es : List U32TableEntry) (own : ℕ → ℕ) → OwnRows table es own → sumHeights es ≤ rowCount table
 
--- "at least as many rows as the height that filling reports for the list", of whatever table was lent to it
+-- "at least as many rows as the height that filling reports for the list", of whatever table was lent to it. The entries of the list are those that
+-- get a section: keys whose multiplicity is 0 are left out (request 11), and need no row
 abbrev pub NoShorterThanFilled : (table aux challenges : List ℕ) → Type 0
 NoShorterThanFilled table aux challenges =
     checkAll table aux challenges ≡ zeroAnswer → (held : HeldList) (own : ℕ → ℕ) → OwnRows table (sectionEntries (sectionList held)) own
     → (lent : List ℕ) (h : ℕ) → fillAll held lent .answer ≡ done (h ∷ []) → h ≤ rowCount table
 
--- "No shorter honest table": none with fewer rows than fill reports passes, if each entry of the list has a row of its own there
+-- "No shorter honest table": none with fewer rows than fill reports passes, if each key of the list that gets a section has a row of its own
+-- there
 abbrev pub NoneShorterPasses : (table aux challenges : List ℕ) → Type 0
 NoneShorterPasses table aux challenges =
     (held : HeldList) (own : ℕ → ℕ) → OwnRows table (sectionEntries (sectionList held)) own

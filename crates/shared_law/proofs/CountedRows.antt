@@ -1,78 +1,62 @@
--- The first rows of the counted places of a list. Their sum is that over all used places, since a place without count adds nothing (counted-sum); none of their
--- denominators is zero exactly where no counted key's is, that is, where the counted keys with one weigh nothing (counted-none-zero). Assumes nothing.
-use Prim.Native.Nat.{ℕ, zero, suc, _+_}
+-- The rows of the counted places of a list, as weights of its used places. The height of what gets sections is the sum of the rows of the counted keys
+-- (section-height); none of the denominators of its first rows is zero exactly where the counted keys with one weigh nothing (section-zeros). Assumes nothing.
+use Prim.Native.Nat.{ℕ, _+_}
 use mathlib.Core.Path.{_≡_, refl, sym, ap, _∙_}
 use mathlib.Core.Bool.{Bool, true, false, cond, not, _&&_}
 use mathlib.Core.List.{List, [], _∷_, _++_, map}
 use mathlib.Core.Logic.{_≢_}
-use native.Mathlib.Nat.{add-zero, zero-add}
+use native.Mathlib.Nat.{add-zero}
 use native.Mathlib.Omega.{arith}
 use lib.Dec.{eqb}
-use lib.ListN.{length, getD}
 use borrow.Author.Tests.{eq-eqb, ne-eqb}
-use Rattle.words.specs.Places.{places}
-use Rattle.xfield.specs.Extension.{Ext, zeroX, addX, scaleX, isZeroX}
-use Rattle.xfield.specs.Inverses.{invX}
-use Rattle.xfield.proofs.Laws.{scaleX-zero, addX-zero-right}
-use Rattle.isa.specs.declared.U32TableEntry.{U32TableEntry}
-use Rattle.list.specs.Lists.{U32List, used, entryAt, multiplicityAt}
-use Rattle.list.specs.Holds.{HeldList}
+use Rattle.xfield.specs.Extension.{isZeroX}
+use Rattle.isa.specs.Entries.{height}
+use Rattle.list.specs.Lists.{used, entryAt, multiplicityAt}
+use Rattle.list.specs.Heights.{sumHeights, listHeight}
+use Rattle.list.specs.Holds.{HeldList, sectionList}
+use Rattle.list.proofs.JudgedLists.{sum-append}
+use Rattle.list.proofs.CountedLists.{counted-fold, counted-height, map-join}
 use Rattle.list_record.proofs.RecordViews.{viewOf}
 use Rattle.table.specs.Columns.{Row}
 use Rattle.table.specs.Challenges.{Challenges, rowDenominator}
-use Rattle.sums.proofs.PlainSums.{sumX, sumX-reduced}
 use Rattle.fill_sections.specs.Sections.{firstRow}
-use Rattle.four_calls.specs.FourCalls.{firstRowsAt, firstRows, noneZero, sumFrom}
-use Rattle.four_calls.proofs.Sums.{sum-join}
+use Rattle.four_calls.specs.FourCalls.{firstRowsAt, firstRows, noneZero}
 use Rattle.client_sum.specs.Client.{entryDenominator}
-use Rattle.client_law.proofs.TermSums.{termAt, termSum}
-use Rattle.shared_law.specs.Counted.{countedTo, countedPlaces, counted}
+use Rattle.client_law.proofs.Servers.{rows-append, counted-first-rows}
 use Rattle.shared_law.proofs.Sums.{sumTo}
 use Rattle.shared_law.proofs.Occurring.{bit}
 use Rattle.shared_law.proofs.Weighed.{Weight, weightAt, weigh}
-use Rattle.shared_law.proofs.CountedLists.{counted-used, counted-entry, counted-count, counted-fold, places-map, map-join}
 
-module _ (l : U32List) where
-  rows-map : (is : List ℕ) → firstRowsAt l is ≡ map (λ i. firstRow (entryAt l i) (multiplicityAt l i)) is
-  unfolding firstRowsAt
-  rows-map [] = refl
-  rows-map (i ∷ is) = ap (λ (rs : List Row). firstRow (entryAt l i) (multiplicityAt l i) ∷ rs) (rows-map is)
+-- ---- the height
 
-  rows-append : (is js : List ℕ) → firstRowsAt l (is ++ js) ≡ firstRowsAt l is ++ firstRowsAt l js
-  unfolding firstRowsAt
-  rows-append [] js = refl
-  rows-append (i ∷ is) js = ap (λ (rs : List Row). firstRow (entryAt l i) (multiplicityAt l i) ∷ rs) (rows-append is js)
+-- the rows of a key, none where it is not counted
+abbrev pub rowsWeight : Weight
+rowsWeight m g k = cond (eqb m 0) 0 (height k)
 
-pub counted-first-rows : (l : U32List) → firstRows (counted l) ≡ firstRowsAt l (countedPlaces l)
-counted-first-rows l =
-    rows-map (counted l) (places (used (counted l)))
-    ∙ ap (λ (n : ℕ). map (λ i. firstRow (entryAt (counted l) i) (multiplicityAt (counted l) i)) (places n)) (counted-used l)
-    ∙ places-map (λ i. firstRow (entryAt (counted l) i) (multiplicityAt (counted l) i)) (λ i. firstRow (entryAt l i) (multiplicityAt l i))
-    (countedPlaces l) 0 (λ j h. rw (zero-add j, counted-entry l j h, counted-count l j h))
-    ∙ sym (rows-map l (countedPlaces l))
-
--- ---- the sum
-
-pub counted-sum : (c : Challenges) (h : HeldList) → sumFrom c zeroX (firstRows (counted (h .list))) ≡ termSum c (viewOf h)
-unfolding termSum sumX sumFrom firstRowsAt firstRow viewOf
-counted-sum c h =
-    ap (sumFrom c zeroX) (counted-first-rows (h .list))
-    ∙ counted-fold (h .list) (λ is. sumFrom c zeroX (firstRowsAt (h .list) is)) (λ n. sumX (termAt c (viewOf h)) n)
-    (λ x i. addX x (termAt c (viewOf h) i)) more refl skip (λ n z. refl) (used (h .list))
+pub section-height : (h : HeldList) → listHeight (sectionList h) ≡ weigh rowsWeight (viewOf h)
+unfolding sectionList weigh sumTo sumHeights viewOf
+section-height h =
+    counted-height (h .list)
+    ∙ counted-fold (h .list) (λ is. sumHeights (map (entryAt (h .list)) is)) (λ n. sumTo (weightAt rowsWeight (viewOf h)) n)
+    (λ b i. b + height (entryAt (h .list) i)) more refl skip take (used (h .list))
   where
     more : (is : List ℕ) (i : ℕ)
-        → sumFrom c zeroX (firstRowsAt (h .list) (is ++ (i ∷ []))) ≡ addX (sumFrom c zeroX (firstRowsAt (h .list) is)) (termAt c (viewOf h) i)
+        → sumHeights (map (entryAt (h .list)) (is ++ (i ∷ []))) ≡ sumHeights (map (entryAt (h .list)) is) + height (entryAt (h .list) i)
     more is i =
-        ap (sumFrom c zeroX) (rows-append (h .list) is (i ∷ []))
-        ∙ sum-join c zeroX (firstRowsAt (h .list) is) (firstRowsAt (h .list) (i ∷ []))
+        ap sumHeights (map-join (entryAt (h .list)) is (i ∷ []))
+        ∙ sum-append (map (entryAt (h .list)) is) (entryAt (h .list) i ∷ [])
+        ∙ ap (λ (n : ℕ). sumHeights (map (entryAt (h .list)) is) + n) (add-zero (height (entryAt (h .list) i)))
 
     skip : (n : ℕ) → multiplicityAt (h .list) n ≡ 0
-        → addX (sumX (termAt c (viewOf h)) n) (termAt c (viewOf h) n) ≡ sumX (termAt c (viewOf h)) n
+        → sumTo (weightAt rowsWeight (viewOf h)) n + weightAt rowsWeight (viewOf h) n ≡ sumTo (weightAt rowsWeight (viewOf h)) n
     skip n z =
-        let y = invX (entryDenominator c (entryAt (h .list) n)) in
-        ap (λ (m : ℕ). addX (sumX (termAt c (viewOf h)) n) (scaleX m y)) z
-        ∙ ap (addX (sumX (termAt c (viewOf h)) n)) (scaleX-zero y)
-        ∙ addX-zero-right (sumX (termAt c (viewOf h)) n) (sumX-reduced (termAt c (viewOf h)) n)
+        let none : weightAt rowsWeight (viewOf h) n ≡ 0 = rw (eq-eqb (multiplicityAt (h .list) n) 0 z) in
+        omega arith
+
+    take : (n : ℕ) → multiplicityAt (h .list) n ≢ 0
+        → sumTo (weightAt rowsWeight (viewOf h)) n + weightAt rowsWeight (viewOf h) n
+        ≡ sumTo (weightAt rowsWeight (viewOf h)) n + height (entryAt (h .list) n)
+    take n z = rw (ne-eqb (multiplicityAt (h .list) n) 0 z)
 
 -- ---- the denominators
 
@@ -103,9 +87,9 @@ zero-more s true = ne-eqb (s + 1) 0 (λ q. omega arith) ∙ sym (and-false (eqb 
   and-false false = refl
 zero-more s false = ap (λ (n : ℕ). eqb n 0) (add-zero s) ∙ sym (and-true (eqb s 0))
 
-pub counted-none-zero : (c : Challenges) (h : HeldList) → noneZero c (firstRows (counted (h .list))) ≡ eqb (weigh (zeroWeight c) (viewOf h)) 0
-unfolding weigh sumTo noneZero firstRowsAt firstRow viewOf
-counted-none-zero c h =
+pub section-zeros : (c : Challenges) (h : HeldList) → noneZero c (firstRows (sectionList h)) ≡ eqb (weigh (zeroWeight c) (viewOf h)) 0
+unfolding sectionList weigh sumTo noneZero firstRowsAt firstRow viewOf
+section-zeros c h =
     ap (noneZero c) (counted-first-rows (h .list))
     ∙ counted-fold (h .list) (λ is. noneZero c (firstRowsAt (h .list) is)) (λ n. eqb (sumTo (weightAt (zeroWeight c) (viewOf h)) n) 0)
     (λ t i. t && not (isZeroX (entryDenominator c (entryAt (h .list) i)))) more refl skip take (used (h .list))

@@ -3,8 +3,8 @@
 -- weighed, the two weigh the same. The order of the keys may differ. Kept where a key that both have is changed on both (both-changed), where it is changed
 -- on S and appended on O (changed-and-new), where it is appended on both (both-new), and where the other's keys come to S (covers-longer). O never has more
 -- places than S (no-more), and fewer where S has a key that O has not (fewer). Assumes nothing.
-use Prim.Native.Nat.{ℕ, zero, suc, _+_, _-_, _≤_, _<_}
-use mathlib.Core.Path.{_≡_, refl, sym, ap, _∙_}
+use Prim.Native.Nat.{ℕ, _+_, _-_, _≤_, _<_}
+use mathlib.Core.Path.{_≡_, sym, ap, _∙_}
 use mathlib.Core.Logic.{_⊎_, inl, inr, _≢_}
 use native.Mathlib.Nat.{add-sub-of-le}
 use native.Mathlib.Decide.{ℕ-discrete, decLt}

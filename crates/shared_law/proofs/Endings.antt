@@ -1,7 +1,7 @@
 -- A shared list as a recorder has it (S) and the list of its own calls alone (O), both at the end: the counts of every key are the same (counts-same); one has an
 -- open hold exactly where the other has (open-same); the list alone is admitted as the shared one is (alone-admitted). Assumes nothing.
-use Prim.Native.Nat.{ℕ, zero, suc, _+_, _≤_, _<_}
-use mathlib.Core.Path.{_≡_, refl, sym, ap, _∙_, subst}
+use Prim.Native.Nat.{ℕ, zero, suc, _<_}
+use mathlib.Core.Path.{_≡_, refl, sym, _∙_, subst}
 use mathlib.Core.Bool.{Bool, true, false, cond}
 use mathlib.Core.Logic.{_⊎_, inl, inr}
 use native.Mathlib.Decide.{ℕ-discrete}
@@ -24,7 +24,7 @@ use Rattle.list_record.proofs.OneKey.{found-known}
 use Rattle.list_record.proofs.Views.{Unknown, EachPlace}
 use Rattle.list_record.proofs.RecordViews.{viewOf, PlaceAdmitted}
 use Rattle.shared_law.specs.NotNoticed.{countOf}
-use Rattle.shared_law.proofs.Sums.{sumTo, sum-none, sum-zero}
+use Rattle.shared_law.proofs.Sums.{sum-none, sum-zero}
 use Rattle.shared_law.proofs.Weighed.{Weight, weigh}
 use Rattle.shared_law.proofs.Together.{Matched}
 

@@ -1,31 +1,29 @@
 -- Runs of two recorders, computed from the definitions, on lists whose unused places hold other words.
---   orders-differ, example: the first records A; the second records B and A. The shared list has A before B, the second's own calls alone make B before A, and
---   through the law the second does not notice.
---   literal-positions: its conditions are needed. The first records A; the second holds B, which is answered 1, and confirms 0, a number that no call of its own
---   was answered: 16 on the shared list, done alone.
---   list-full: on one place the first records A and the second B: 6 on the shared list, done alone.
+--   shared-order, alone-order, example: the first records A; the second records B and A. The shared list has A before B, the second's own calls alone make B
+--   before A, and through the law the second does not notice.
+--   literal-shared, literal-alone, literal-not-own: its conditions are needed. The first records A; the second holds B, which is answered 1, and confirms 0, a
+--   number that no call of its own was answered: 16 on the shared list, done alone.
+--   full-shared, full-alone: on one place the first records A and the second B: 6 on the shared list, done alone.
 -- Assumes nothing.
 use Prim.Native.Nat.{ℕ}
 use mathlib.Core.Path.{_≡_, refl, sym, subst}
 use mathlib.Core.Bool.{Bool, true, false}
 use mathlib.Core.List.{List, [], _∷_}
 use native.Mathlib.Omega.{arith}
-use Rattle.words.specs.Answers.{Answer, done, declined}
-use Rattle.words.specs.declared.Judgement.the-variants.{Fine}
+use Rattle.words.specs.Answers.{done, declined}
 use Rattle.words.specs.declared.Refusal.the-variants.{ListFull, NoHold}
 use Rattle.isa.specs.Opcodes.{opLt, opAnd, isOpcode}
 use Rattle.isa.specs.declared.U32TableEntry.{U32TableEntry}
 use Rattle.isa.specs.Entries.{entry, judgeAsItIs, judgeEntry, admitted}
 use Rattle.list.specs.Lists.{capacity, keyAt, multiplicityAt, entryAt, listShape, countFull}
 use Rattle.list.specs.Keys.{sameKey, findFrom, findKey}
-use Rattle.list.specs.Holds.{HeldList, heldList, holdAt, heldShape, sectionList}
+use Rattle.list.specs.Holds.{HeldList, heldList, holdAt, heldShape}
 use Rattle.list_record.specs.Recording.{placeReason, recordReason, recordWith}
 use Rattle.list_record.specs.Holding.{dropReason, confirmReason, confirmAll}
 use Rattle.list_laws.specs.Calls.{Call, callAll, after, Fresh}
 use Rattle.list_shared.specs.Shared.{otherShape, cleared, beside, recordShared, holdShared}
-use Rattle.shared_law.specs.Counted.{counted}
-use Rattle.shared_law.specs.Recorders.{Recorder, SharedList, own, callShared, Made, run, FreshShared}
-use Rattle.shared_law.specs.Alone.{told, ownAnswers, answersOf, NoneFull, position, TakesOwn, noted, aloneAt, aloneCall, next, aloneFrom, alone}
+use Rattle.shared_law.specs.Recorders.{Recorder, SharedList, own, callShared, Made, makes, run, FreshShared}
+use Rattle.shared_law.specs.Alone.{told, ownAnswers, answersOf, NoneFull, position, TakesOwn, aloneCall, next, aloneFrom, alone}
 use Rattle.shared_law.specs.NotNoticed.{Unnoticed}
 use Rattle.shared_law.proofs.NotNoticed.{not-noticed}
 
@@ -34,9 +32,6 @@ A = entry opAnd 3 1
 
 abbrev B : U32TableEntry
 B = entry opLt 2 3
-
-abbrev by : Recorder → Call → Made
-by r c = record { by = r; call = c }
 
 -- ---- the law is not empty
 
@@ -53,7 +48,7 @@ abbrev twoAlone : HeldList
 twoAlone = heldList (record { capacity = 2; used = 0 }) (1 ∷ 2 ∷ 3 ∷ 4 ∷ 5 ∷ 6 ∷ []) (3 ∷ 4 ∷ []) (1 ∷ 2 ∷ [])
 
 abbrev threeCalls : List Made
-threeCalls = by Recorder.first (Call.records A) ∷ by Recorder.second (Call.records B) ∷ by Recorder.second (Call.records A) ∷ []
+threeCalls = makes Recorder.first (Call.records A) ∷ makes Recorder.second (Call.records B) ∷ makes Recorder.second (Call.records A) ∷ []
 
 two-fresh : FreshShared twoPlaces
 unfolding heldShape listShape
@@ -90,13 +85,13 @@ three-takes = (tt, (tt, tt))
 three-not-full : NoneFull (ownAnswers Recorder.second twoPlaces threeCalls)
 three-not-full = subst NoneFull (sym three-answers) (λ q. omega arith, (λ q. omega arith, tt))
 
-pub example : ((h : HeldList) → sectionList h ≡ counted (h .list)) → Unnoticed Recorder.second twoPlaces twoAlone threeCalls
-example compact = not-noticed compact Recorder.second twoPlaces twoAlone threeCalls two-fresh two-alone-fresh refl three-takes three-not-full
+pub example : Unnoticed Recorder.second twoPlaces twoAlone threeCalls
+example = not-noticed Recorder.second twoPlaces twoAlone threeCalls two-fresh two-alone-fresh refl three-takes three-not-full
 
 -- ---- literal positions
 
 abbrev literalCalls : List Made
-literalCalls = by Recorder.first (Call.records A) ∷ by Recorder.second (Call.holds B) ∷ by Recorder.second (Call.confirms 0) ∷ []
+literalCalls = makes Recorder.first (Call.records A) ∷ makes Recorder.second (Call.holds B) ∷ makes Recorder.second (Call.confirms 0) ∷ []
 
 literal-shared : ownAnswers Recorder.second twoPlaces literalCalls ≡ done [] ∷ declined NoHold ∷ []
 unfolding
@@ -131,7 +126,7 @@ abbrev oneAlone : HeldList
 oneAlone = heldList (record { capacity = 1; used = 0 }) (1 ∷ 2 ∷ 3 ∷ []) (3 ∷ []) (1 ∷ [])
 
 abbrev twoCalls : List Made
-twoCalls = by Recorder.first (Call.records A) ∷ by Recorder.second (Call.records B) ∷ []
+twoCalls = makes Recorder.first (Call.records A) ∷ makes Recorder.second (Call.records B) ∷ []
 
 full-shared : ownAnswers Recorder.second onePlace twoCalls ≡ declined ListFull ∷ []
 unfolding

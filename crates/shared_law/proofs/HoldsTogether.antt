@@ -1,10 +1,10 @@
 -- A confirm or a drop on the shared list and alone, at two places that have one key (confirm-together, drop-together): its holds and its count are the same
 -- on both, so both are refused with one number or both change the place alike. Assumes nothing.
 use Prim.Native.Nat.{ℕ, _+_, _-_, _<_}
-use mathlib.Core.Path.{_≡_, refl, sym}
-use mathlib.Core.List.{List, []}
+use mathlib.Core.Path.{_≡_, refl}
+use mathlib.Core.List.{[]}
 use borrow.Author.Tests.{lt-ltb}
-use Rattle.words.specs.Outcomes.{Outcome, outcome}
+use Rattle.words.specs.Outcomes.{outcome}
 use Rattle.words.specs.declared.Judgement.{Judgement}
 use Rattle.words.specs.declared.Judgement.the-variants.{Fine, Declined}
 use Rattle.list.specs.Lists.{used, multiplicityAt, entryAt}
@@ -12,7 +12,6 @@ use Rattle.list.specs.Holds.{HeldList, holdAt}
 use Rattle.list.proofs.HeldLists.{held-shape-fine}
 use Rattle.list_record.specs.Recording.{settled}
 use Rattle.list_record.specs.Holding.{dropReason, confirmReason, confirmAll, dropAll}
-use Rattle.list_record.proofs.RecordEach.{numberOf}
 use Rattle.list_record.proofs.Stores.{settled-shaped}
 use Rattle.list_record.proofs.RecordViews.{viewOf, settled-view}
 use Rattle.shared_law.proofs.Covering.{both-changed}

@@ -2,7 +2,6 @@ pub mod Sums
 pub mod Occurring
 pub mod Weighed
 pub mod Covering
-pub mod CountedLists
 pub mod CountedRows
 pub mod Ways
 pub mod Together
@@ -16,5 +15,6 @@ pub mod TermWeights
 pub mod Endings
 pub mod SameRuns
 pub mod NotNoticed
+pub mod AsAlone
 pub mod OwnLaws
 pub mod Examples

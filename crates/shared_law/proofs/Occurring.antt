@@ -8,7 +8,7 @@ use native.Mathlib.Omega.{arith}
 use Rattle.isa.specs.declared.U32TableEntry.{U32TableEntry}
 use Rattle.list.specs.Keys.{sameKey}
 use Rattle.list.proofs.Finding.{same-key-equal, same-key-self}
-use Rattle.list_record.proofs.Views.{View, Unknown, Changed, Appended, old-or-new}
+use Rattle.list_record.proofs.Views.{View, Changed, Appended, old-or-new}
 
 -- some used place has the key
 abbrev pub Known : View → U32TableEntry → Type 0

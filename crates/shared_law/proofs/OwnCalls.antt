@@ -1,7 +1,7 @@
 -- A recorder's own call, on the shared list (S) and alone (O), a confirm or a drop at positions of one earlier call (call-together): both tell the same, what
 -- was kept between the lists is kept, and the positions that they answer have one key. Assumes nothing.
 use Prim.Native.Nat.{ℕ}
-use mathlib.Core.Path.{_≡_, refl, sym, ap, _∙_}
+use mathlib.Core.Path.{_≡_, refl, ap}
 use mathlib.Core.Bool.{Bool, true, false, cond}
 use mathlib.Core.List.{List, [], _∷_, _++_, map}
 use mathlib.Core.Logic.{_≢_}

@@ -1,50 +1,39 @@
 -- The laws of requests 6 and 2 of a recorder on the shared list, over any calls of both (own-multiplicity, own-calls-are-server). What is true of the places of
 -- its list and of what its calls counted stays so by each kind of change that its own calls make (Carried), and where the other's keys come to stand there
 -- without count and holds; so it is true after any calls (own-run). Assumes nothing.
-use Prim.Native.Nat.{ℕ, _+_, _≤_, _<_}
+use Prim.Native.Nat.{ℕ, _≤_, _<_}
 use mathlib.Core.Path.{_≡_, refl, sym, ap, _∙_, subst}
-use mathlib.Core.Bool.{Bool, true, false, cond}
+use mathlib.Core.Bool.{true, false, cond}
 use mathlib.Core.List.{List, [], _∷_, _++_, append-nil, append-assoc, flatMap}
-use mathlib.Core.Logic.{_≢_, _⊎_, inl, inr}
+use mathlib.Core.Logic.{_⊎_, inl, inr}
 use native.Mathlib.Decide.{decLt}
 use native.Mathlib.Omega.{arith}
-use lib.ListN.{length, getD}
 use Rattle.words.specs.declared.Judgement.the-variants.{Fine}
-use Rattle.xfield.specs.Extension.{zeroX}
 use Rattle.isa.specs.declared.U32TableEntry.{U32TableEntry}
-use Rattle.isa.specs.Entries.{judgeAsItIs, judgeEntry, admitted}
+use Rattle.isa.specs.Entries.{judgeAsItIs, judgeEntry}
 use Rattle.isa.proofs.Entries.{judged-admissible, admissible-fine}
-use Rattle.list.specs.Lists.{U32List, used, multiplicityAt, entryAt}
-use Rattle.list.specs.Heights.{listHeight}
-use Rattle.list.specs.Keys.{sameKey}
-use Rattle.list.specs.Holds.{HeldList, openHold, sectionList, judgeHeld}
-use Rattle.list.proofs.Finding.{same-key-equal}
-use Rattle.list.proofs.HeldLists.{held-shape-fine, held-fine}
-use Rattle.list_record.proofs.Views.{View, Unknown, Changed, Appended, EachPlace}
-use Rattle.list_record.proofs.RecordViews.{viewOf, PlaceAdmitted, EachEntry}
-use Rattle.list_laws.specs.Calls.{Call, callAll, counts, occurrences}
+use Rattle.list_record.proofs.Views.{View, EachPlace}
+use Rattle.list_record.proofs.RecordViews.{viewOf, EachEntry}
+use Rattle.list_laws.specs.Calls.{Call, counts, occurrences}
 use Rattle.list_laws.proofs.Distinct.{Distinct, changed-distinct, appended-distinct}
 use Rattle.list_laws.proofs.Tallies.{Tallied, tally-counted, tally-kept, tally-new, tally-none}
 use Rattle.list_laws.proofs.Carried.{Carried, call-carries}
-use Rattle.table.specs.Challenges.{Challenges, challengesOf}
+use Rattle.table.specs.Challenges.{challengesOf}
 use Rattle.sums.proofs.PlainSums.{sumX}
-use Rattle.client_sum.specs.Client.{entryDenominator, clientSum}
+use Rattle.client_sum.specs.Client.{clientSum}
 use Rattle.client_sum.proofs.Sums.{client-none}
-use Rattle.client_law.specs.ClientLaw.{NoZeroDenominator, NoZeroSection, RightlyLent, requestWords, SumsAgree}
+use Rattle.client_law.specs.ClientLaw.{requestWords}
 use Rattle.client_law.proofs.TermSums.{termSum}
 use Rattle.client_law.proofs.Requests.{client-fine}
-use Rattle.client_law.proofs.ClientLaw.{as-it-is, Priced, priced-carried, sums-agree}
+use Rattle.client_law.proofs.ClientLaw.{judged-fine, Priced, priced-carried, counted-section, sums-agree}
 use Rattle.list_shared.specs.Shared.{Shared}
-use Rattle.shared_law.specs.Recorders.{Recorder, SharedList, own, others, callShared, Made, made, run, FreshShared}
+use Rattle.shared_law.specs.Recorders.{Recorder, SharedList, own, callShared, Made, made, run, FreshShared}
 use Rattle.shared_law.specs.Alone.{same}
-use Rattle.shared_law.specs.Counted.{countedPlaces, counted}
 use Rattle.shared_law.specs.OwnCalls.{ownCounted, CountedByOwn, OwnCallsAreServer}
 use Rattle.shared_law.proofs.Weighed.{Longer}
-use Rattle.shared_law.proofs.CountedLists.{counted-used, counted-entry, counted-each}
 use Rattle.shared_law.proofs.TermWeights.{longer-sum}
-use Rattle.shared_law.proofs.SharedCalls.{turned, BothShaped, turned-shaped, called, shared-shaped, AsItIs, Spared, call-lasting, shared-call, other-spares, spared-admitted}
+use Rattle.shared_law.proofs.SharedCalls.{turned, BothShaped, turned-shaped, shared-shaped, AsItIs, Spared, call-lasting, shared-call, other-spares, spared-admitted}
 use Rattle.shared_law.proofs.Runs.{seen, opposite, seen-own, seen-other, same-self, same-opposite, whose, fresh-shaped, none-used}
-use Rattle.shared_law.proofs.NotNoticed.{section-judged}
 
 -- ---- any calls of both
 
@@ -167,17 +156,6 @@ entries-fine : (es : List U32TableEntry) → EachEntry (λ x. judgeAsItIs x ≡ 
 entries-fine [] each = tt
 entries-fine (x ∷ es) each = (admissible-fine x (judged-admissible x (each .0)), entries-fine es (each .1))
 
--- what occurs among what was counted has a denominator that is not zero
-occurring : (c : Challenges) (k : U32TableEntry) (es : List U32TableEntry) → EachEntry (λ x. judgeAsItIs x ≡ Fine) es → NoZeroDenominator c es
-    → occurrences k es ≢ 0 → entryDenominator c k ≢ zeroX
-unfolding occurrences
-occurring c k [] each n some = absurd (some refl)
-occurring c k (e ∷ es) each n some = go (occurring c k es (each .1) (n .1)) (sameKey e k) refl some where
-  go : (occurrences k es ≢ 0 → entryDenominator c k ≢ zeroX) → (t : Bool) → sameKey e k ≡ t → (cond t 1 0 + occurrences k es ≢ 0)
-      → entryDenominator c k ≢ zeroX
-  go rest true q x = subst (λ (y : U32TableEntry). entryDenominator c y ≢ zeroX) (as-it-is e (each .0) ∙ same-key-equal e k q) (n .0)
-  go rest false q x = rest (λ z. x (omega arith))
-
 module _ (challenges : List ℕ) where
   -- the tallies, and the client's sum
   record Paid (v : View) (es : List U32TableEntry) : Type 0 where
@@ -227,31 +205,13 @@ module _ (challenges : List ℕ) where
     entries = tt;
   }
 
-  module _ (compact : (h : HeldList) → sectionList h ≡ counted (h .list)) where
-    -- no key that gets a section has a denominator that is zero: it has a count, so it was counted
-    no-zero : (h : HeldList) (es : List U32TableEntry) → Paid (viewOf h) es → NoZeroDenominator (challengesOf challenges) es
-        → NoZeroSection (challengesOf challenges) (sectionList h)
-    unfolding viewOf
-    no-zero h es p n = subst (NoZeroSection (challengesOf challenges)) (sym (compact h)) each where
-      l : U32List
-      l = h .list
-
-      each : NoZeroSection (challengesOf challenges) (counted (h .list))
-      each i b =
-          let k : i < length (countedPlaces (h .list)) = rw (counted-used (h .list)) at b in
-          let has = counted-each (h .list) (used (h .list)) i k in
-          rw (counted-entry (h .list) i k)
-          (occurring (challengesOf challenges) (entryAt (h .list) (getD (countedPlaces (h .list)) i 0)) es (p .entries) n
-          (λ z. has .1 (p .lawful .1 .placed (getD (countedPlaces (h .list)) i 0) (has .0) ∙ z)))
-
-    pub own-calls-are-server : (r : Recorder) (s : SharedList) (ms : List Made) (table aux : List ℕ) → OwnCallsAreServer r s ms table aux challenges
-    own-calls-are-server r s ms table aux fresh shut n lent =
-        let h = own r (run s ms) in
-        let es = ownCounted r s ms in
-        let k = own-run Paid paid-carried paid-spared r s ms [] (fresh-kept Paid r s fresh (fresh-paid r s fresh)) in
-        let shaped = k .shaped .own in
-        sums-agree h es table aux challenges
-        (held-fine h (held-shape-fine h shaped) shut (section-judged compact h shaped (k .holds .priced .0)))
-        (k .holds .priced .1)
-        (client-fine challenges es (lent .challenges-shape) (lent .challenges-reduced) (entries-fine es (k .holds .entries)) n)
-        (no-zero h es (k .holds) n) lent
+  pub own-calls-are-server : (r : Recorder) (s : SharedList) (ms : List Made) (table aux : List ℕ) → OwnCallsAreServer r s ms table aux challenges
+  unfolding viewOf
+  own-calls-are-server r s ms table aux fresh shut n lent =
+      let h = own r (run s ms) in
+      let es = ownCounted r s ms in
+      let k = own-run Paid paid-carried paid-spared r s ms [] (fresh-kept Paid r s fresh (fresh-paid r s fresh)) in
+      sums-agree h es table aux challenges (judged-fine h (k .shaped .own) shut (k .holds .priced .0)) (k .holds .priced .1)
+      (client-fine challenges es (lent .challenges-shape) (lent .challenges-reduced) (entries-fine es (k .holds .entries)) n)
+      (counted-section (challengesOf challenges) h (k .holds .priced .0) es (k .holds .lawful .1 .placed) n)
+      lent

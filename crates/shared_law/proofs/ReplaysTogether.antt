@@ -9,7 +9,6 @@ use native.Mathlib.Omega.{arith}
 use lib.Dec.{eqb}
 use lib.ListN.{length}
 use borrow.Author.Tests.{eqb-true, eqb-false}
-use Rattle.words.specs.Answers.{Answer}
 use Rattle.words.specs.Outcomes.{Outcome}
 use Rattle.words.specs.Refusals.{refusalNumber, declineIf}
 use Rattle.words.specs.declared.Judgement.{Judgement}
@@ -21,7 +20,6 @@ use Rattle.list.specs.Holds.{HeldList, heldShape}
 use Rattle.list.proofs.HeldLists.{held-shape-fine}
 use Rattle.list_record.specs.Recording.{recordAll, recordEach}
 use Rattle.list_record.proofs.RecordEach.{numberOf, each-accepted, each-refused}
-use Rattle.list_record.proofs.RecordViews.{viewOf}
 use Rattle.list_replay.specs.declared.StepEntries.{StepEntries}
 use Rattle.list_replay.specs.declared.StepEntries.the-variants.{One, Two, Refused}
 use Rattle.list_replay.specs.Steps.{Step, stepWidth, stepAt, stepEntries}

@@ -9,26 +9,23 @@ use mathlib.Core.Logic.{_≢_, _⊎_, inl, inr}
 use native.Mathlib.Omega.{arith}
 use lib.ListN.{length, getD}
 use Rattle.words.specs.Answers.{Answer}
-use Rattle.words.specs.Outcomes.{Outcome}
 use Rattle.words.specs.Refusals.{refusalNumber}
-use Rattle.words.specs.declared.Judgement.the-variants.{Fine}
 use Rattle.words.specs.declared.Refusal.the-variants.{ListFull}
 use Rattle.list.specs.declared.Sizes.{Sizes}
 use Rattle.list.specs.Lists.{capacity}
 use Rattle.list.specs.Holds.{HeldList}
 use Rattle.list.proofs.HeldLists.{HeldShaped, held-shaped}
-use Rattle.list_record.proofs.RecordEach.{numberOf}
-use Rattle.list_record.proofs.Views.{View, EachPlace}
+use Rattle.list_record.proofs.Views.{EachPlace}
 use Rattle.list_record.proofs.RecordViews.{viewOf, PlaceAdmitted}
 use Rattle.list_laws.specs.Calls.{Call, callAll, after, Fresh}
-use Rattle.list_shared.specs.Shared.{Counts, Shared}
-use Rattle.shared_law.specs.Recorders.{Recorder, SharedList, own, others, put, callShared, Made, madeAll, made, run, FreshShared}
+use Rattle.list_shared.specs.Shared.{Shared}
+use Rattle.shared_law.specs.Recorders.{Recorder, SharedList, own, others, callShared, Made, madeAll, made, run, FreshShared}
 use Rattle.shared_law.specs.Alone.{same, told, ownAnswers, answersOf, NoneFull, position, Takes, TakesOwn, Position, noted, aloneCall}
 use Rattle.shared_law.specs.Alone.{Both, next, bothAfter, aloneFrom, started, alone}
 use Rattle.shared_law.proofs.Sums.{sumTo}
 use Rattle.shared_law.proofs.Weighed.{weigh}
 use Rattle.shared_law.proofs.Covering.{Covers, covers-longer}
-use Rattle.shared_law.proofs.Together.{Grown, grown-none, Matched}
+use Rattle.shared_law.proofs.Together.{grown-none, Matched}
 use Rattle.shared_law.proofs.Logs.{AllGood, sharedOnes, good-grown, good-nth, good-same}
 use Rattle.shared_law.proofs.OwnCalls.{call-together}
 use Rattle.shared_law.proofs.SharedCalls.{call-capacity, turned, BothShaped, turned-shaped, called, shared-shaped, shared-call}

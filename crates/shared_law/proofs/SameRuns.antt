@@ -1,8 +1,8 @@
 -- What a run of fill, pad, extend and check answers goes by four things of a list and by lengths: how it is judged, its height, whether none of its first rows'
 -- denominators is zero, and the sum over its first rows (same-run). Pad never refuses after fill, and check answers zero where there is a row; where there is
 -- none, it is asked of nothing on both. And the verdict that `run` answers is the last of these answers (run-last). Assumes nothing.
-use Prim.Native.Nat.{ℕ, zero, suc, _/_, _≤_, _<_}
-use mathlib.Core.Path.{_≡_, refl, sym, ap, ap₂, _∙_, subst}
+use Prim.Native.Nat.{ℕ, zero, _/_, _<_}
+use mathlib.Core.Path.{_≡_, refl, sym, ap, ap₂, _∙_}
 use mathlib.Core.Bool.{Bool, true, false, cond}
 use mathlib.Core.List.{List, [], _∷_}
 use native.Mathlib.Decide.{decLt}
@@ -17,11 +17,11 @@ use Rattle.words.specs.declared.Judgement.{Judgement}
 use Rattle.words.specs.declared.Judgement.the-variants.{Fine, Declined}
 use Rattle.words.specs.declared.Refusal.{Refusal}
 use Rattle.words.proofs.Answers.{number-positive}
-use Rattle.words.proofs.Outcomes.{outcome-fine, outcome-declined}
+use Rattle.words.proofs.Outcomes.{outcome-fine}
 use Rattle.xfield.specs.Extension.{Ext, zeroX}
 use Rattle.list.specs.Heights.{listHeight}
 use Rattle.list.specs.Holds.{HeldList, sectionList, judgeHeld}
-use Rattle.table.specs.Columns.{Row, mainWidth, rowCount, tableShape, auxShape}
+use Rattle.table.specs.Columns.{mainWidth, rowCount, auxShape}
 use Rattle.table.specs.Challenges.{challengesOf}
 use Rattle.table.specs.RowWords.{tableWords}
 use Rattle.sums.specs.RunningSum.{elementWords, sumWords}
@@ -30,7 +30,7 @@ use Rattle.air.specs.Check.{zeroAnswer, checkAll}
 use Rattle.fill.specs.Filling.{filled, fillReason, fillAll}
 use Rattle.fill.specs.Padding.{padAll}
 use Rattle.fill.specs.Extending.{extendReason, extendAll}
-use Rattle.four_calls.specs.FourCalls.{firstRows, noneZero, sumFrom, filledTable, paddedTable, extendedAux, extendRefusals}
+use Rattle.four_calls.specs.FourCalls.{firstRows, noneZero, sumFrom, paddedTable, extendRefusals}
 use Rattle.four_calls.specs.Run.{Arrays, thenCall, runAll}
 use Rattle.four_calls.proofs.Calls.{fill-answer, fill-done, shape-by-length, finalRows, final-count, padded-is}
 use Rattle.four_calls.proofs.FourCalls.{four-calls, after-fill, none-refuses}

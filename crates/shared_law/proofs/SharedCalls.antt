@@ -2,7 +2,7 @@
 -- that have come into use (call-shared). Both stay of the right shape (shared-shaped). No key comes to stand at two used places (call-lasting), and as the other
 -- sees it, places without count and holds have come into use (other-spares). Assumes nothing.
 use Prim.Native.Nat.{ℕ, _+_, _-_, _≤_, _<_}
-use mathlib.Core.Path.{_≡_, refl, sym, ap, _∙_, subst}
+use mathlib.Core.Path.{_≡_, refl, sym, ap, _∙_}
 use mathlib.Core.Bool.{Bool, true, false, and-eq-true-iff}
 use mathlib.Core.List.{List, [], _∷_}
 use native.Mathlib.Decide.{decLt}
@@ -27,7 +27,7 @@ use Rattle.list.proofs.HeldLists.{HeldShaped}
 use Rattle.list_record.specs.Recording.{recordAll, recordEach, settled}
 use Rattle.list_record.specs.Holding.{confirmReason, confirmAll, dropReason, dropAll}
 use Rattle.list_record.proofs.RecordEach.{numberOf, each-accepted, each-refused}
-use Rattle.list_record.proofs.Views.{View, Changed, Appended, EachPlace, changed-each, appended-each}
+use Rattle.list_record.proofs.Views.{View, Changed, EachPlace, changed-each, appended-each}
 use Rattle.list_record.proofs.RecordViews.{viewOf, PlaceAdmitted}
 use Rattle.list_replay.specs.Replay.{replayAll, entriesFrom}
 use Rattle.list_laws.specs.Calls.{Call, callAll, after, stepsDone}

@@ -1,14 +1,13 @@
 -- One call of a recorder on the shared list (S) and on the list that its own calls alone make (O): both are refused with one number, or neither is, and what
 -- was kept between the lists is kept (Joined). This page: a recording or a hold (record-together), in all combinations of the ways that it goes on the two.
 -- "List full" enters here alone: where the shared list does not meet it, the other does not, since it has fewer keys. Assumes nothing.
-use Prim.Native.Nat.{ℕ, _+_, _≤_, _<_}
+use Prim.Native.Nat.{ℕ, _≤_, _<_}
 use mathlib.Core.Path.{_≡_, refl, sym, ap, _∙_}
 use mathlib.Core.Bool.{Bool, true, false, cond}
-use mathlib.Core.List.{List, [], _∷_}
+use mathlib.Core.List.{[], _∷_}
 use mathlib.Core.Logic.{_≢_}
 use native.Mathlib.Nat.{zero-add}
 use native.Mathlib.Omega.{arith}
-use Rattle.words.specs.Limits.{multiplicityLimit}
 use Rattle.words.specs.Answers.{Answer, done, declined}
 use Rattle.words.specs.Outcomes.{Outcome, outcome}
 use Rattle.words.specs.Refusals.{refusalNumber}

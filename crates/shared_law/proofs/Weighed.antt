@@ -1,8 +1,8 @@
 -- The places of a list weighed: the sum over the used places of a weight that goes by count, holds and key. Rows, open holds and the lookup's sum are such
 -- weights. What a change or an append does to the sum (changed-weigh, appended-weigh); places that come into use without count and holds add nothing, where
 -- nothing weighs nothing (longer-weigh). Assumes nothing.
-use Prim.Native.Nat.{ℕ, suc, _+_, _-_, _≤_, _<_}
-use mathlib.Core.Path.{_≡_, _∙_, ap}
+use Prim.Native.Nat.{ℕ, _+_, _-_, _≤_, _<_}
+use mathlib.Core.Path.{_≡_}
 use native.Mathlib.Nat.{add-sub-of-le}
 use native.Mathlib.Omega.{arith}
 use Rattle.isa.specs.declared.U32TableEntry.{U32TableEntry}

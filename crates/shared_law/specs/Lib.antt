@@ -1,5 +1,4 @@
 pub mod Recorders
 pub mod Alone
-pub mod Counted
 pub mod NotNoticed
 pub mod OwnCalls

@@ -5,7 +5,7 @@
 use Prim.Native.Nat.{ℕ}
 use mathlib.Core.Path.{_≡_}
 use mathlib.Core.Bool.{cond}
-use mathlib.Core.List.{List, [], _∷_}
+use mathlib.Core.List.{List, [], _∷_, map}
 use lib.Dec.{eqb}
 use lib.ListN.{length, getD}
 use Rattle.words.specs.Answers.{Answer}
@@ -14,13 +14,13 @@ use Rattle.list.specs.Lists.{capacity, multiplicityAt}
 use Rattle.list.specs.Holds.{HeldList}
 use Rattle.list_record.specs.Recording.{placeIn, known}
 use Rattle.list_record.specs.Plan.{planAll}
-use Rattle.list_laws.specs.Calls.{after, Fresh}
+use Rattle.list_laws.specs.Calls.{Call, after, Fresh}
 use Rattle.air.specs.Check.{checkAll}
 use Rattle.fill.specs.Filling.{fillAll}
 use Rattle.fill.specs.Padding.{padAll}
 use Rattle.fill.specs.Extending.{extendAll}
 use Rattle.four_calls.specs.Run.{runAll}
-use Rattle.shared_law.specs.Recorders.{Recorder, SharedList, own, Made, run, FreshShared}
+use Rattle.shared_law.specs.Recorders.{Recorder, SharedList, own, Made, makes, run, FreshShared}
 use Rattle.shared_law.specs.Alone.{ownAnswers, answersOf, NoneFull, TakesOwn, alone}
 
 -- how often a key is counted on a list; a key that does not stand there is not
@@ -56,3 +56,9 @@ pub record Unnoticed (r : Recorder) (s : SharedList) (o : HeldList) (ms : List M
 abbrev pub NotNoticed : Recorder → SharedList → HeldList → List Made → Type 0
 NotNoticed r s o ms =
     FreshShared s → Fresh o → capacity (o .list) ≡ s .sizes .capacity → TakesOwn r [] s ms → NoneFull (ownAnswers r s ms) → Unnoticed r s o ms
+
+-- "alone" on a shared list whose other recorder makes no calls: the own list and the answers are those of the same calls on a list of one recorder, of which
+-- the law speaks (proofs/AsAlone.antt, for every fresh list)
+pub record AsAlone (r : Recorder) (o : SharedList) (cs : List Call) : Type 0 where
+  pub list : own r (run o (map (makes r) cs)) ≡ after (own r o) cs
+  pub answers : ownAnswers r o (map (makes r) cs) ≡ answersOf (own r o) cs

@@ -15,7 +15,8 @@ use Rattle.client_law.specs.ClientLaw.{NoZeroDenominator, RightlyLent, SumsAgre
 use Rattle.shared_law.specs.Recorders.{Recorder, SharedList, own, Made, made, run, FreshShared}
 use Rattle.shared_law.specs.Alone.{same}
 
--- what its own calls count, in their order: accepted recordings and confirms, and the entries of the steps that its replays did
+-- What its own calls count, in their order: accepted recordings and confirms, and the entries of the steps that its replays did. A call on the shared list
+-- answers what it answers on the recorder's own (proofs/SharedCalls.antt: shared-call)
 unfoldable pub ownCounted : Recorder → SharedList → List Made → List U32TableEntry
 ownCounted r s [] = []
 ownCounted r s (m ∷ ms) = cond (same r (m .by)) (counts (own r s) (m .call)) [] ++ ownCounted r (made s m) ms
@@ -28,7 +29,8 @@ pub record CountedByOwn (r : Recorder) (s : SharedList) (ms : List Made) : Type 
       → occurrences k (ownCounted r s ms) ≡ 0
 
 -- request 2: "if no denominator lacks an inverse, the client's sum over the recordings equals the last running sum that demand 3's fill, pad and extend then
--- make under the same challenges, none refusing", where no hold of its own is open. No other key's denominator matters
+-- make under the same challenges, none refusing", where no hold of its own is open. No other denominator is asked for: not that of a key whose holds were all
+-- dropped, nor that of a key which the other recorder alone counts
 abbrev pub OwnCallsAreServer : Recorder → SharedList → List Made → (table aux challenges : List ℕ) → Type 0
 OwnCallsAreServer r s ms table aux challenges =
     FreshShared s → openHold (own r (run s ms)) ≡ Fine → NoZeroDenominator (challengesOf challenges) (ownCounted r s ms)

@@ -63,6 +63,9 @@ pub record Made : Type 0 where
   pub by : Recorder
   pub call : Call
 
+abbrev pub makes : Recorder → Call → Made
+makes r c = record { by = r; call = c }
+
 abbrev pub madeAll : SharedList → Made → Outcome Shared
 madeAll s m = callShared (own (m .by) s) (others (m .by) s) (m .call)
 

@@ -93,7 +93,8 @@ paddedText n height padded table aux challenges =
     let padding = padAll table height in
     unlessRefused (padding .answer) (extendedText n height padded (padding .left) aux challenges)
 
--- filling, then those
+-- Filling, then those. The N of the first line is that of the stored list, keys with multiplicity 0 included: these take a place when read, and have
+-- no row (request 11)
 unfoldable pub callsText : HeldList → (challenges : List ℕ) → (height padded : ℕ) → (table aux : List ℕ) → List ℕ
 callsText h challenges height padded table aux =
     let filling = fillAll h table in

@@ -5,6 +5,7 @@
 ghost use mathlib.Core.Path.{_≡_};
 ghost use Rattle.isa.specs.Entries.{entry};
 ghost use Rattle.batches.specs.Batches.{batchAll};
+ghost use Rattle.list_shared.specs.Lent.{counts};
 ghost use Rattle.c_answers.specs.Exports.{lentList, lentDue, Exported};
 ghost use Rattle.c_lists.specs.ListAnswers.{compareAll};
 ghost use Rattle.c_lists.specs.ListAnswers.{RecordAnswers, RecordLeaves, HoldAnswers, HoldLeaves, ConfirmLeaves, DropLeaves};
@@ -20,11 +21,11 @@ ghost use Rattle.c_lookups.specs.LookupAnswers.{lentCascade, lentLookups, looke
 
 // The number of these signatures. It is raised whenever one of them changes, and not where a function is added: here, in the name below, in include/u32_table.h and in the Rust
 // crate. Both name the symbol, so a program does not link with a library of other signatures.
-const ABI: u64 = 2;
+const ABI: u64 = 3;
 
 #[no_mangle]
-pub extern "C" fn u32_table_abi_2() -> u64
-    ensures { λ r. ⌜ r ≡ 2 ⌝ }
+pub extern "C" fn u32_table_abi_3() -> u64
+    ensures { λ r. ⌜ r ≡ 3 ⌝ }
 {
     ABI
 }
@@ -37,13 +38,15 @@ pub extern "C" fn u32_table_record(
     keys: &mut [u64],
     multiplicities: &mut [u64],
     holds: &mut [u64],
+    other_multiplicities: &mut [u64],
+    other_holds: &mut [u64],
     opcode: u64,
     left_operand: u64,
     right_operand: u64,
     answers: &mut [u64],
 ) -> u64
-    ensures answers { λ r. ⌜ RecordAnswers (lentList capacity used (now (keys .entry)) (now (multiplicities .entry)) (now (holds .entry))) (entry opcode «left_operand» «right_operand») (now (answers .entry)) r (now (answers .exit)) ⌝ }
-    ensures list { λ _. ⌜ RecordLeaves (lentList capacity used (now (keys .entry)) (now (multiplicities .entry)) (now (holds .entry))) (entry opcode «left_operand» «right_operand») (now (answers .entry)) (now (keys .exit)) (now (multiplicities .exit)) (now (holds .exit)) ⌝ }
+    ensures answers { λ r. ⌜ RecordAnswers (lentList capacity used (now (keys .entry)) (now (multiplicities .entry)) (now (holds .entry))) (counts (now («other_multiplicities» .entry)) (now («other_holds» .entry))) (entry opcode «left_operand» «right_operand») (now (answers .entry)) r (now (answers .exit)) ⌝ }
+    ensures list { λ _. ⌜ RecordLeaves (lentList capacity used (now (keys .entry)) (now (multiplicities .entry)) (now (holds .entry))) (counts (now («other_multiplicities» .entry)) (now («other_holds» .entry))) (entry opcode «left_operand» «right_operand») (now (answers .entry)) (now (keys .exit)) (now (multiplicities .exit)) (now (holds .exit)) (counts (now («other_multiplicities» .exit)) (now («other_holds» .exit))) ⌝ }
 {
     c_lists::record_entry(
         capacity,
@@ -51,6 +54,8 @@ pub extern "C" fn u32_table_record(
         keys,
         multiplicities,
         holds,
+        other_multiplicities,
+        other_holds,
         opcode,
         left_operand,
         right_operand,
@@ -66,13 +71,15 @@ pub extern "C" fn u32_table_hold(
     keys: &mut [u64],
     multiplicities: &mut [u64],
     holds: &mut [u64],
+    other_multiplicities: &mut [u64],
+    other_holds: &mut [u64],
     opcode: u64,
     left_operand: u64,
     right_operand: u64,
     answers: &mut [u64],
 ) -> u64
-    ensures answers { λ r. ⌜ HoldAnswers (lentList capacity used (now (keys .entry)) (now (multiplicities .entry)) (now (holds .entry))) (entry opcode «left_operand» «right_operand») (now (answers .entry)) r (now (answers .exit)) ⌝ }
-    ensures list { λ _. ⌜ HoldLeaves (lentList capacity used (now (keys .entry)) (now (multiplicities .entry)) (now (holds .entry))) (entry opcode «left_operand» «right_operand») (now (answers .entry)) (now (keys .exit)) (now (multiplicities .exit)) (now (holds .exit)) ⌝ }
+    ensures answers { λ r. ⌜ HoldAnswers (lentList capacity used (now (keys .entry)) (now (multiplicities .entry)) (now (holds .entry))) (counts (now («other_multiplicities» .entry)) (now («other_holds» .entry))) (entry opcode «left_operand» «right_operand») (now (answers .entry)) r (now (answers .exit)) ⌝ }
+    ensures list { λ _. ⌜ HoldLeaves (lentList capacity used (now (keys .entry)) (now (multiplicities .entry)) (now (holds .entry))) (counts (now («other_multiplicities» .entry)) (now («other_holds» .entry))) (entry opcode «left_operand» «right_operand») (now (answers .entry)) (now (keys .exit)) (now (multiplicities .exit)) (now (holds .exit)) (counts (now («other_multiplicities» .exit)) (now («other_holds» .exit))) ⌝ }
 {
     c_lists::hold_entry(
         capacity,
@@ -80,6 +87,8 @@ pub extern "C" fn u32_table_hold(
         keys,
         multiplicities,
         holds,
+        other_multiplicities,
+        other_holds,
         opcode,
         left_operand,
         right_operand,
@@ -125,13 +134,25 @@ pub extern "C" fn u32_table_replay(
     keys: &mut [u64],
     multiplicities: &mut [u64],
     holds: &mut [u64],
+    other_multiplicities: &mut [u64],
+    other_holds: &mut [u64],
     trace: &[u64],
     answers: &mut [u64],
 ) -> u64
-    ensures answers { λ r. ⌜ ReplayAnswers (lentList capacity used (now (keys .entry)) (now (multiplicities .entry)) (now (holds .entry))) (now (trace .entry)) (now (answers .entry)) r (now (answers .exit)) ⌝ }
-    ensures list { λ _. ⌜ ReplayLeaves (lentList capacity used (now (keys .entry)) (now (multiplicities .entry)) (now (holds .entry))) (now (trace .entry)) (now (answers .entry)) (now (keys .exit)) (now (multiplicities .exit)) (now (holds .exit)) ⌝ }
+    ensures answers { λ r. ⌜ ReplayAnswers (lentList capacity used (now (keys .entry)) (now (multiplicities .entry)) (now (holds .entry))) (counts (now («other_multiplicities» .entry)) (now («other_holds» .entry))) (now (trace .entry)) (now (answers .entry)) r (now (answers .exit)) ⌝ }
+    ensures list { λ _. ⌜ ReplayLeaves (lentList capacity used (now (keys .entry)) (now (multiplicities .entry)) (now (holds .entry))) (counts (now («other_multiplicities» .entry)) (now («other_holds» .entry))) (now (trace .entry)) (now (answers .entry)) (now (keys .exit)) (now (multiplicities .exit)) (now (holds .exit)) (counts (now («other_multiplicities» .exit)) (now («other_holds» .exit))) ⌝ }
 {
-    c_lists::replay(capacity, used, keys, multiplicities, holds, trace, answers)
+    c_lists::replay(
+        capacity,
+        used,
+        keys,
+        multiplicities,
+        holds,
+        other_multiplicities,
+        other_holds,
+        trace,
+        answers,
+    )
 }
 
 // Answers: 0 where the first entry is less, 1 where the two are equal, 2 where it is greater.
@@ -182,12 +203,24 @@ pub extern "C" fn u32_table_read(
     keys: &mut [u64],
     multiplicities: &mut [u64],
     holds: &mut [u64],
+    other_multiplicities: &mut [u64],
+    other_holds: &mut [u64],
     answers: &mut [u64],
 ) -> u64
-    ensures answers { λ r. ⌜ ReadAnswers (lentList capacity used (now (keys .entry)) (now (multiplicities .entry)) (now (holds .entry))) (now (bytes .entry)) (now (answers .entry)) r (now (answers .exit)) ⌝ }
-    ensures list { λ _. ⌜ ReadLeaves (lentList capacity used (now (keys .entry)) (now (multiplicities .entry)) (now (holds .entry))) (now (bytes .entry)) (now (answers .entry)) (now (keys .exit)) (now (multiplicities .exit)) (now (holds .exit)) ⌝ }
+    ensures answers { λ r. ⌜ ReadAnswers (lentList capacity used (now (keys .entry)) (now (multiplicities .entry)) (now (holds .entry))) (counts (now («other_multiplicities» .entry)) (now («other_holds» .entry))) (now (bytes .entry)) (now (answers .entry)) r (now (answers .exit)) ⌝ }
+    ensures list { λ _. ⌜ ReadLeaves (lentList capacity used (now (keys .entry)) (now (multiplicities .entry)) (now (holds .entry))) (counts (now («other_multiplicities» .entry)) (now («other_holds» .entry))) (now (bytes .entry)) (now (answers .entry)) (now (keys .exit)) (now (multiplicities .exit)) (now (holds .exit)) (counts (now («other_multiplicities» .exit)) (now («other_holds» .exit))) ⌝ }
 {
-    c_lists::read(bytes, capacity, used, keys, multiplicities, holds, answers)
+    c_lists::read(
+        bytes,
+        capacity,
+        used,
+        keys,
+        multiplicities,
+        holds,
+        other_multiplicities,
+        other_holds,
+        answers,
+    )
 }
 
 // Answers: the number of bytes written.

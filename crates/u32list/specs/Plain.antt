@@ -18,7 +18,8 @@ use Rattle.four_calls.specs.FourCalls.{paddedTable}
 use Rattle.text.specs.Lines.{refusedLine}
 use Rattle.transcript.specs.Transcript.{maxInput, maxPrintedRows, challengeBytes, inputChallenges, zeros, unusedPlaces, unlessRefused, resultText}
 
--- "then extension refuses", and else all is printed, and the check's answer is `zero`
+-- "then extension refuses", and else all is printed, and the check's answer is `zero`. N is that of the stored list: keys with multiplicity 0 are in
+-- it, though they have no row (request 11)
 unfoldable pub plainTable : HeldList → (challenges : List ℕ) → (height padded : ℕ) → List ℕ
 plainTable h challenges height padded =
     let table = paddedTable h (zeros (mainWidth * padded)) height in

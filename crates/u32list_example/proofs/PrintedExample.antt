@@ -4,7 +4,6 @@
 -- 64 bits, which is not computed as it stands: the few that occur are rewritten first. Assumes nothing.
 use Prim.Native.Nat.{ℕ}
 use mathlib.Core.Path.{_≡_, refl, sym, ap, subst, _∙_}
-use mathlib.Core.Bool.{true}
 use mathlib.Core.List.{List, [], _∷_, _++_, flatMap}
 use lib.Dec.{lit<}
 use lib.ListN.{drop, replicate}
@@ -24,6 +23,7 @@ use Rattle.isa.specs.Entries.{judgeAsItIs, judgeEntry, admitStored, admitted, a
 use Rattle.isa.specs.PlainFunctions.{floorLog2}
 use Rattle.list.specs.Lists.{keyAt, multiplicityAt, entryAt, listShape, countFull, judgeEntryBy, judgePlaceBy, judgeList}
 use Rattle.list.specs.Heights.{sectionPlaces, entriesAt, sumHeights, listHeight}
+use Rattle.list.specs.Counted.{countedTo, counted}
 use Rattle.list.specs.Holds.{HeldList, heldList, holdAt, heldShape, judgeHold, openHold, sectionList, judgeHeld}
 use Rattle.list_record.specs.Plan.{paddedHeight, planAll}
 use Rattle.list_bytes.specs.Packed.{storedN, storedHeight, storedEntry, widthOf, storedMultiplicity}
@@ -66,7 +66,7 @@ unfolding readAll readReason torn storedN storedHeight storedEntry widthOf store
 reading-is = refl
 
 height-is : listHeight (sectionList list) ≡ 3
-unfolding sectionList listHeight placesFrom entriesAt sumHeights height heightOf dominant admitted entryAt keyAt floorLog2
+unfolding sectionList counted countedTo listHeight placesFrom entriesAt sumHeights height heightOf dominant admitted entryAt keyAt floorLog2 multiplicityAt flatMap
 height-is = refl
 
 padded-height-is : paddedHeight 3 ≡ 256
@@ -74,7 +74,7 @@ unfolding paddedHeight
 padded-height-is = refl
 
 plan-is : planAll list ≡ done (3 ∷ 256 ∷ [])
-unfolding planAll paddedHeight judgeHeld heldShape openHold judgeHold holdAt sectionList judgeList listShape judgePlaceBy judgeEntryBy countFull entryAt keyAt multiplicityAt judgeEntry judgeAsItIs isOpcode firstReason listHeight placesFrom entriesAt sumHeights height heightOf dominant admitted floorLog2
+unfolding planAll paddedHeight judgeHeld heldShape openHold judgeHold holdAt sectionList counted countedTo judgeList listShape judgePlaceBy judgeEntryBy countFull entryAt keyAt multiplicityAt judgeEntry judgeAsItIs isOpcode firstReason listHeight placesFrom entriesAt sumHeights height heightOf dominant admitted floorLog2 flatMap
 plan-is = refl
 
 -- ---- the inverses that occur
@@ -121,7 +121,7 @@ abbrev aux : List ℕ
 aux = zeros 768
 
 fill-fine : fillReason list table ≡ Fine
-unfolding fillReason tableShape judgeHeld heldShape openHold judgeHold holdAt sectionList judgeList listShape judgePlaceBy judgeEntryBy countFull entryAt keyAt multiplicityAt judgeEntry judgeAsItIs isOpcode firstReason listHeight placesFrom entriesAt sumHeights height heightOf dominant admitted floorLog2
+unfolding fillReason tableShape judgeHeld heldShape openHold judgeHold holdAt sectionList counted countedTo judgeList listShape judgePlaceBy judgeEntryBy countFull entryAt keyAt multiplicityAt judgeEntry judgeAsItIs isOpcode firstReason listHeight placesFrom entriesAt sumHeights height heightOf dominant admitted floorLog2 flatMap
 fill-fine = refl
 
 abbrev row : (a b c d e f g h i j : ℕ) → Row
@@ -151,7 +151,7 @@ abbrev padding : Row
 padding = row 0 0 15651782846776010939 14 0 0 0 0 0 0
 
 sections-are : sectionsAt (sectionList list) (sectionPlaces (sectionList list)) ≡ section-rows
-unfolding sectionList placesFrom entryAt keyAt multiplicityAt admitted sectionsAt section sectionFrom isEnd ending carry carryAnd addF mulF
+unfolding sectionList counted countedTo placesFrom entryAt keyAt multiplicityAt admitted sectionsAt section sectionFrom isEnd ending carry carryAnd addF mulF flatMap
 sections-are = rw (bits-0, bits-1, bits-2, inverse-0, inverse-1, inverse-3) refl
 
 filled : Filled list table (listHeight (sectionList list))

@@ -79,8 +79,14 @@ pub struct Counts {
     pub recordings: u64,
     pub orders: u64,
     /// Entries held, holds confirmed, holds dropped; refused with 16; with 5 where the count alone would do; lists filled after such calls, and of those the
-    /// ones with a key that was held and never counted.
+    /// ones in which a key is left out.
     pub holds: [u64; 7],
+    /// Keys found at a place where only the other recorder had a count or a hold; refused with 6 where the recorder's own keys had room; lists planned while
+    /// the other one has an open hold; lists whose keys stand in another order than the original recorded them; runs compared with the recorder's own calls alone.
+    pub shared: [u64; 5],
+    /// Places of lists that are left out, their multiplicity being 0, and of them those whose key is not admitted; readings of a stored list with such
+    /// keys; readings onto a list with keys.
+    pub left_out: [u64; 4],
     /// Replays, and the steps of theirs that were done.
     pub replays: [u64; 2],
     /// div_mod steps that stop at 6 where lt alone had a place, at 5 of lt where split had no place, and at 13.
@@ -120,12 +126,12 @@ pub enum Case {
         capacity: usize,
         keys: Vec<Key>,
     },
-    /// Recordings, at once and in two parts, onto a list without repeats that has so many holds.
-    Hold {
-        list: Vec<Entry>,
-        holds: Vec<u64>,
+    /// Calls of two recorders on one list of keys without repeats; each call has the number of its recorder, 0 or 1.
+    Shared {
+        places: Vec<Place>,
         capacity: usize,
-        calls: Vec<Call>,
+        calls: Vec<(usize, Call)>,
+        challenges: Challenges,
     },
     /// A trace replayed onto a list without repeats.
     Replay {
@@ -156,13 +162,188 @@ pub enum Case {
     Shapes,
 }
 
-/// A recording, or one of the parts of one.
+/// A used place of a list that two recorders share: the key as it stands there, and the count and the open holds of each.
 #[derive(Debug, Clone, Copy, Eq, PartialEq)]
+pub struct Place {
+    pub key: Key,
+    pub counts: [u64; 2],
+    pub holds: [u64; 2],
+}
+
+/// A recording, one of the parts of one, or a replay. A confirm or a drop has the number of an earlier call of the same recorder, and takes the position
+/// that this call answered; where it answered none, or there is no such call, the number itself.
+#[derive(Debug, Clone, Eq, PartialEq)]
 pub enum Call {
     Record(Key),
     Hold(Key),
+    Replay(Vec<Key>),
     Confirm(usize),
     Drop(usize),
+}
+
+/// A call of the port on a list, as its recorder sees it: the number and the stated answers, which a replay has on a refusal too.
+type Made = (u64, Vec<u64>);
+
+fn make(list: &mut List, call: &Call, answered: &[Option<usize>]) -> Made {
+    let stated = |answer: port::Answer<2>| answer.map_or_else(|number| (number, vec![]), |words| (0, words.to_vec()));
+    let done = |answer: port::Answer<0>| (answer.err().unwrap_or(0), vec![]);
+    let made = match call {
+        Call::Record(key) => stated(port::record(list, *key)),
+        Call::Hold(key) => stated(port::hold(list, *key)),
+        Call::Replay(trace) => {
+            let (number, words) = port::replay(list, trace.as_flattened());
+            (number, words.to_vec())
+        }
+        Call::Confirm(call) => done(port::confirm(list, position(*call, answered))),
+        Call::Drop(call) => done(port::drop(list, position(*call, answered))),
+    };
+    if let [_, used] = made.1[..] {
+        list.used = used as usize;
+    }
+    made
+}
+
+/// The position that a recorder's earlier call answered, or the number itself.
+fn position(call: usize, answered: &[Option<usize>]) -> usize {
+    answered.get(call).copied().flatten().unwrap_or(call)
+}
+
+/// The position that a call answered.
+fn answered_position(call: &Call, (number, words): &Made) -> Option<usize> {
+    let is_recording = matches!(call, Call::Record(_) | Call::Hold(_));
+    (is_recording && *number == 0).then(|| words[0] as usize)
+}
+
+/// What two recorders have made of a list: the original's list of each, in which each records its own accepted entries; and, since the original has
+/// neither, the shared places in their order, with the key as it stands there and the open holds of each.
+#[derive(Clone)]
+struct Shared {
+    capacity: usize,
+    places: Vec<(Key, [u64; 2])>,
+    lists: [Vec<Entry>; 2],
+}
+
+impl Shared {
+    fn new(places: &[Place], capacity: usize) -> Self {
+        let list = |who: usize| {
+            let entries: Vec<Entry> =
+                places.iter().map(|place| Entry { key: place.key, multiplicity: place.counts[who] }).collect();
+            counted(&entries)
+        };
+        Self { capacity, places: places.iter().map(|place| (place.key, place.holds)).collect(), lists: [list(0), list(1)] }
+    }
+
+    /// The multiplicity that the recorder's list of the original has, 0 where it has no such key.
+    fn count(&self, who: usize, key: Key) -> u64 {
+        let is_equal = |entry: &&Entry| admitted(entry.key) == admitted(key);
+        self.lists[who].iter().find(is_equal).map_or(0, |entry| entry.multiplicity)
+    }
+
+    fn find(&self, key: Key) -> Option<usize> {
+        self.places.iter().position(|(held, _)| admitted(*held) == admitted(key))
+    }
+
+    /// An entry recorded, or held: its position, or the first of the reasons 2 to 6.
+    fn put(&mut self, who: usize, raw: Key, is_hold: bool) -> Result<usize, u64> {
+        key_reason(raw).map_or(Ok(()), Err)?;
+        let at = match self.find(raw) {
+            Some(at) => {
+                let (count, holds) = (self.count(who, raw), self.places[at].1[who]);
+                if u128::from(count) + u128::from(holds) >= u128::from(MOST_COUNT) {
+                    return Err(COUNT_FULL);
+                }
+                at
+            }
+            None if self.places.len() == self.capacity => return Err(LIST_FULL),
+            None => {
+                self.places.push((admitted(raw), [0; 2]));
+                self.places.len() - 1
+            }
+        };
+        if is_hold {
+            self.places[at].1[who] += 1;
+        } else {
+            self.lists[who] = record(&self.lists[who], &[raw]);
+        }
+        Ok(at)
+    }
+
+    /// A hold confirmed, or dropped: done, or 16 or 5.
+    fn settle(&mut self, who: usize, position: usize, is_confirm: bool) -> Result<(), u64> {
+        let (key, holds) = *self.places.get(position).filter(|(_, holds)| holds[who] > 0).ok_or(NO_HOLD)?;
+        if is_confirm {
+            if self.count(who, key) >= MOST_COUNT {
+                return Err(COUNT_FULL);
+            }
+            self.lists[who] = record(&self.lists[who], &[key]);
+        }
+        self.places[position].1[who] = holds[who] - 1;
+        Ok(())
+    }
+
+    /// The steps up to the first refused one: the number, and how many are done.
+    fn replay(&mut self, who: usize, trace: &[Key]) -> (u64, u64) {
+        for (done, &step) in trace.iter().enumerate() {
+            let before = self.clone();
+            let made =
+                step_entries(step).and_then(|keys| keys.into_iter().try_for_each(|key| self.put(who, key, false).map(|_| ())));
+            if let Err(number) = made {
+                *self = before;
+                return (number, done as u64);
+            }
+        }
+        (0, trace.len() as u64)
+    }
+
+    /// What a call is to answer.
+    fn make(&mut self, who: usize, call: &Call, answered: &[Option<usize>]) -> Made {
+        let made = match call {
+            Call::Record(key) | Call::Hold(key) => {
+                let put = self.put(who, *key, matches!(call, Call::Hold(_)));
+                put.map(|at| vec![at as u64, self.places.len() as u64])
+            }
+            Call::Replay(trace) => {
+                let (number, done) = self.replay(who, trace);
+                return (number, vec![done, self.places.len() as u64]);
+            }
+            Call::Confirm(call) => self.settle(who, position(*call, answered), true).map(|()| vec![]),
+            Call::Drop(call) => self.settle(who, position(*call, answered), false).map(|()| vec![]),
+        };
+        made.map_or_else(|number| (number, vec![]), |words| (0, words))
+    }
+
+    /// All places with the counts of a recorder.
+    fn entries(&self, who: usize) -> Vec<Entry> {
+        self.places.iter().map(|&(key, _)| Entry { key, multiplicity: self.count(who, key) }).collect()
+    }
+
+    /// The arrays as the first recorder sees them; unused places are as in `old`.
+    fn arrays(&self, old: &List) -> List {
+        let mut list = List { used: self.places.len(), ..old.clone() };
+        for (i, &(key, holds)) in self.places.iter().enumerate() {
+            list.keys[3 * i..3 * i + 3].copy_from_slice(&key);
+            (list.multiplicities[i], list.other_multiplicities[i]) = (self.count(0, key), self.count(1, key));
+            [list.holds[i], list.other_holds[i]] = holds;
+        }
+        list
+    }
+}
+
+/// The list as a recorder sees it, from how the first one does; and back.
+fn seen_by(who: usize, list: List) -> List {
+    if who == 0 { list } else { list.exchanged() }
+}
+
+/// The port's fill, pad, extend and check of a list into one row more than its height: the height, the last sum and the check's answer, as far as none refuses.
+fn whole_run(list: &List, challenges: &Challenges) -> Result<(u64, [u64; 3], bool), u64> {
+    let [height, _] = port::plan(list)?;
+    let rows = height as usize + 1;
+    let (mut table, mut aux) = (vec![7; 10 * rows], vec![7; 3 * rows]);
+    let [filled] = port::fill(list, &mut table)?;
+    port::pad(&mut table, filled as usize)?;
+    let sum = port::extend(&table, &mut aux, challenges)?;
+    let verdict = port::check(&table, &aux, challenges)?;
+    Ok((filled, sum, verdict[0] == 0))
 }
 
 pub type Same = Result<(), String>;
@@ -229,6 +410,10 @@ fn key_reason(key: Key) -> Option<u64> {
     stored_key_reason(admitted(key))
 }
 
+pub fn is_admitted(key: Key) -> bool {
+    key_reason(key).is_none()
+}
+
 /// The first of the reasons 2 to 5 for an entry, and for one in stored bytes.
 fn entry_reason(entry: &Entry) -> Option<u64> {
     key_reason(entry.key).or(count_reason(entry))
@@ -289,14 +474,15 @@ fn stored(list: &[Entry], height: usize, width: usize) -> Vec<u8> {
     bytes
 }
 
-/// The list in the port's arrays, with no hold at its places; unused places have other words.
+/// The list in the port's arrays, with no hold at its places; unused places, and all places of the other recorder's arrays, have other words.
 fn arrays(list: &[Entry], capacity: usize) -> List {
     let (mut keys, mut multiplicities, mut holds) = (old_words(3 * capacity), old_words(capacity), old_words(capacity));
     for (i, entry) in list.iter().enumerate() {
         keys[3 * i..3 * i + 3].copy_from_slice(&entry.key);
         (multiplicities[i], holds[i]) = (entry.multiplicity, 0);
     }
-    List { capacity, used: list.len(), keys, multiplicities, holds }
+    let [other_multiplicities, other_holds] = [1, 2].map(|from| old_words(capacity + from)[from..].to_vec());
+    List { capacity, used: list.len(), keys, multiplicities, holds, other_multiplicities, other_holds }
 }
 
 fn agree(what: &str, ours: impl std::fmt::Debug, theirs: impl std::fmt::Debug, agrees: bool) -> Same {
@@ -319,7 +505,7 @@ impl Comparison {
             Case::List { list, spare, extra, challenges } => self.list(list, *spare, *extra, challenges),
             Case::Table { rows, aux, challenges, filled } => self.table(rows, aux, challenges, *filled),
             Case::Record { list, capacity, keys } => self.record(list, *capacity, keys),
-            Case::Hold { list, holds, capacity, calls } => self.hold(list, holds, *capacity, calls),
+            Case::Shared { places, capacity, calls, challenges } => self.shared(places, *capacity, calls, challenges),
             Case::Replay { list, capacity, trace } => self.replay(list, *capacity, trace),
             Case::Client { requests, challenges } => self.client(requests, challenges),
             Case::LookUp { elements, capacity, challenges } => self.look_up(elements, *capacity, challenges),
@@ -356,8 +542,17 @@ impl Comparison {
         self.counts.words += before.len() as u64;
         match (0..before.len()).find(|&i| after[i] != before[i]) {
             None => Ok(()),
-            Some(i) => Err(format!("{what}: word {i} is to stay {} and is {}", before[i], after[i])),
+            Some(i) => Err(format!("{what}: word {i} is to be {} and is {}", before[i], after[i])),
         }
+    }
+
+    /// The other recorder's arrays of a list that was made by `arrays`: 0 at the places from `from` to `to`, which have come into use, and otherwise as they were.
+    fn others(&mut self, what: &str, list: &List, from: usize, to: usize) -> Same {
+        let mut old = arrays(&[], list.capacity);
+        old.other_multiplicities[from..to].fill(0);
+        old.other_holds[from..to].fill(0);
+        self.untouched(&format!("{what}: other multiplicities"), &list.other_multiplicities, &old.other_multiplicities)?;
+        self.untouched(&format!("{what}: other holds"), &list.other_holds, &old.other_holds)
     }
 
     /// The port must refuse with this number.
@@ -405,6 +600,7 @@ impl Comparison {
             self.refused("confirm with a wrong shape", answer, SHAPE)?;
             let answer = port::drop(&mut list, 0);
             self.refused("drop with a wrong shape", answer, SHAPE)?;
+            self.replay_refused(&mut list)?;
             let answer = port::plan(&list);
             self.refused("plan with a wrong shape", answer, SHAPE)?;
             let mut table = old_words(100);
@@ -418,6 +614,32 @@ impl Comparison {
             let answer = port::read(&stored(&[entry(14, 3, 1, 2)], 3, 8), &mut list);
             self.refused("read with a wrong shape", answer, SHAPE)?;
             agree("the list after refusals", &list, &before, list == before)?;
+        }
+        // the other recorder's arrays, of the four calls that are lent them
+        let wrong: [&dyn Fn(&mut List); 4] = [
+            &|list| list.other_multiplicities.truncate(1),
+            &|list| list.other_multiplicities.push(0),
+            &|list| list.other_holds.truncate(1),
+            &|list| list.other_holds.push(0),
+        ];
+        for change in wrong {
+            for used in [0, 1] {
+                let mut list = arrays(&[entry(14, 3, 1, 2)][..used], 2);
+                change(&mut list);
+                let before = list.clone();
+                for key in [[14, 3, 1], [14, 1, 3], [5, 0, 0]] {
+                    let answer = port::record(&mut list, key);
+                    self.refused("record with other arrays of a wrong shape", answer, SHAPE)?;
+                    let answer = port::hold(&mut list, key);
+                    self.refused("hold with other arrays of a wrong shape", answer, SHAPE)?;
+                }
+                self.replay_refused(&mut list)?;
+                for bytes in [stored(&[entry(14, 3, 1, 2)], 3, 8), vec![0; 7]] {
+                    let answer = port::read(&bytes, &mut list);
+                    self.refused("read with other arrays of a wrong shape", answer, SHAPE)?;
+                }
+                agree("the list after refusals", &list, &before, list == before)?;
+            }
         }
         for words in [1, 9, 11, 29] {
             let mut table = old_words(words);
@@ -443,21 +665,33 @@ impl Comparison {
         Ok(())
     }
 
+    /// A replay onto a list of a wrong shape: 1, with no step done.
+    fn replay_refused(&mut self, list: &mut List) -> Same {
+        let answer = port::replay(list, &[14, 3, 1]);
+        let due = (SHAPE, [0, list.used as u64]);
+        *self.counts.refusals.entry(SHAPE).or_default() += 1;
+        agree("replay with a wrong shape", answer, due, answer == due)
+    }
+
     // ------------------------------------------------------------------------------------------------------------------ lists
 
     fn list(&mut self, list: &[Entry], spare: usize, extra: usize, challenges: &Challenges) -> Same {
         let ours = arrays(list, list.len() + spare);
-        if let Some(entry) = list.iter().find(|entry| entry_reason(entry).is_some()) {
+        // what is left out is not examined, and the original is not given it
+        let kept = counted(list);
+        if let Some(entry) = kept.iter().find(|entry| entry_reason(entry).is_some()) {
             return self.refused_list(list, &ours, extra, entry);
         }
         self.counts.lists += 1;
-        self.counts.entries += list.len() as u64;
+        self.counts.entries += kept.len() as u64;
+        self.counts.left_out[0] += (list.len() - kept.len()) as u64;
+        self.counts.left_out[1] += list.iter().filter(|entry| entry_reason(entry).is_some()).count() as u64;
         self.counts.large[0] += list.iter().filter(|entry| entry.multiplicity > MOST).count() as u64;
-        self.counts.raw[0] += list.iter().filter(|entry| is_raw(entry)).count() as u64;
+        self.counts.raw[0] += kept.iter().filter(|entry| is_raw(entry)).count() as u64;
 
-        let height = theirs("height", || list_height(list))?;
-        self.heights(list, &ours, height)?;
-        let table = self.filled(list, &ours, height, extra)?;
+        let height = theirs("height", || list_height(&kept))?;
+        self.heights(&kept, &ours, height)?;
+        let table = self.filled(&kept, &ours, height, extra)?;
         self.counts.list_rows += table.len() as u64;
         if !table.is_empty() {
             let aux = self.extended(&table, challenges)?;
@@ -469,7 +703,7 @@ impl Comparison {
         self.round_trip(list, &ours, height)
     }
 
-    /// Plan, each entry's height, and the order of neighbours.
+    /// Plan, each counted entry's height, and the order of neighbours.
     fn heights(&mut self, list: &[Entry], ours: &List, height: usize) -> Same {
         let plan = port::plan(ours);
         let padded = height.next_power_of_two().max(256);
@@ -524,22 +758,20 @@ impl Comparison {
         Ok(rows)
     }
 
-    /// Written, and read back reduced. A stored list is not the original's: the bytes are compared with document 01's form.
-    fn round_trip(&mut self, raw: &[Entry], ours: &List, height: usize) -> Same {
+    /// The counted entries written, and read back reduced. A stored list is not the original's: the bytes are compared with document 01's form.
+    fn round_trip(&mut self, places: &[Entry], ours: &List, height: usize) -> Same {
         self.counts.round_trips += 1;
+        let raw = &counted(places);
         let list = &admitted_list(raw);
         let bytes = stored(list, height, 8);
         let old: Vec<u8> = old_words(bytes.len() + 5).iter().map(|&word| (word >> 8) as u8).collect();
         let mut out = old.clone();
         let answer = port::write(ours, &mut out);
-        let mut fresh = arrays(&[], ours.capacity);
-        let before = fresh.clone();
+        self.onto_keys(&bytes, ours)?;
         if has_repeats(list) {
             self.refused("write", answer, REPEAT)?;
             agree("write, refused: bytes", &out, &old, out == old)?;
-            let read = port::read(&bytes, &mut fresh);
-            self.refused("read", read, REPEAT)?;
-            return agree("read, refused: list", &fresh, &before, fresh == before);
+            return self.unreadable("read", &bytes, ours.capacity, REPEAT);
         }
         agree("write", answer, bytes.len(), answer == Ok([bytes.len() as u64]))?;
         agree("write: bytes", &out[..bytes.len()], &bytes, out[..bytes.len()] == bytes)?;
@@ -549,46 +781,91 @@ impl Comparison {
         self.refused("write, one byte fewer", answer, SHORT)?;
         agree("write, refused: bytes", &short, &old, short == old[..short.len()])?;
 
-        let answer = port::read(&bytes, &mut fresh);
-        agree("read", answer, list.len(), answer == Ok([list.len() as u64]))?;
-        self.same("read: keys", &fresh.keys, &arrays(list, ours.capacity).keys)?;
-        self.same("read: multiplicities", &fresh.multiplicities, &ours.multiplicities)?;
-        self.same("read: holds", &fresh.holds, &ours.holds)?;
-
+        self.readable("read", &bytes, list, ours.capacity)?;
         self.unreadable("read, one byte fewer", &bytes[..bytes.len() - 1], ours.capacity, TORN)?;
         self.unreadable("read, another height", &stored(list, height + 1, 8), ours.capacity, TALLY)?;
         if !list.is_empty() {
             self.unreadable("read, one place too few", &bytes, list.len() - 1, LIST_FULL)?;
-            if raw != list.as_slice() {
+            if raw != list {
                 self.unreadable("read of a base of p or more", &stored(raw, height, 8), ours.capacity, WIDE)?;
                 self.unreadable("read of a base of p or more, the old form", &stored(raw, height, 4), ours.capacity, WIDE)?;
             }
             self.old_form(list, ours.capacity, height)?;
         }
+        if raw.len() < places.len() && places.iter().all(|entry| entry.key[0] < 256) {
+            self.with_left_out(places, ours.capacity, &bytes, height)?;
+        }
         Ok(())
+    }
+
+    /// A list stored with its entries of multiplicity 0, by somebody else: reading judges them and takes their heights, and a writing leaves them out.
+    fn with_left_out(&mut self, places: &[Entry], capacity: usize, written: &[u8], height: usize) -> Same {
+        let all = &admitted_list(places);
+        let what = "read with multiplicities of 0";
+        if let Some(reason) = all.iter().find_map(stored_entry_reason) {
+            return self.unreadable(what, &stored(all, height, 8), capacity, reason);
+        }
+        let whole = theirs("height", || list_height(all))?;
+        if has_repeats(all) {
+            return self.unreadable(what, &stored(all, whole, 8), capacity, REPEAT);
+        }
+        self.counts.left_out[2] += 1;
+        let fresh = self.readable(what, &stored(all, whole, 8), all, capacity)?;
+        let mut out = vec![7; written.len()];
+        let answer = port::write(&fresh, &mut out);
+        agree("write with multiplicities of 0", answer, written.len(), answer == Ok([written.len() as u64]))?;
+        agree("write with multiplicities of 0: bytes", &out, written, out == written)?;
+        self.unreadable("read with multiplicities of 0, the others' height", &stored(all, height, 8), capacity, TALLY)
+    }
+
+    /// Bytes that reading must take as this list; the list then.
+    fn readable(&mut self, what: &str, bytes: &[u8], list: &[Entry], capacity: usize) -> Result<List, String> {
+        let mut fresh = arrays(&[], capacity);
+        let answer = port::read(bytes, &mut fresh);
+        agree(what, answer, list.len(), answer == Ok([list.len() as u64]))?;
+        fresh.used = list.len();
+        let expected = arrays(list, capacity);
+        self.same(&format!("{what}: keys"), &fresh.keys, &expected.keys)?;
+        self.same(&format!("{what}: multiplicities"), &fresh.multiplicities, &expected.multiplicities)?;
+        self.same(&format!("{what}: holds"), &fresh.holds, &expected.holds)?;
+        self.others(what, &fresh, 0, list.len())?;
+        Ok(fresh)
     }
 
     /// Read from the old form, and written in the new one. A multiplicity has four bytes there: the lower ones.
     fn old_form(&mut self, list: &[Entry], capacity: usize, height: usize) -> Same {
         let list: Vec<Entry> = list.iter().map(|entry| Entry { multiplicity: entry.multiplicity & MOST, ..*entry }).collect();
-        let (old, new) = (stored(&list, height, 4), stored(&list, height, 8));
-        let mut fresh = arrays(&[], capacity);
-        let answer = port::read(&old, &mut fresh);
-        agree("read of the old form", answer, list.len(), answer == Ok([list.len() as u64]))?;
-        fresh.used = list.len();
-        let expected = arrays(&list, capacity);
-        self.same("read of the old form: keys", &fresh.keys, &expected.keys)?;
-        self.same("read of the old form: multiplicities", &fresh.multiplicities, &expected.multiplicities)?;
-        self.same("read of the old form: holds", &fresh.holds, &expected.holds)?;
+        let kept = counted(&list);
+        let kept_height = theirs("height", || list_height(&kept))?;
+        let (old, new) = (stored(&list, height, 4), stored(&kept, kept_height, 8));
+        let fresh = self.readable("read of the old form", &old, &list, capacity)?;
         let mut out = vec![7; new.len()];
-        let answer = port::write(&fresh, &mut out[..old.len()]);
-        self.refused("write, as many bytes as the old form has", answer, SHORT)?;
+        if kept == list {
+            let answer = port::write(&fresh, &mut out[..old.len()]);
+            self.refused("write, as many bytes as the old form has", answer, SHORT)?;
+        }
         let answer = port::write(&fresh, &mut out);
         agree("write after the old form", answer, new.len(), answer == Ok([new.len() as u64]))?;
         agree("write after the old form: bytes", &out, &new, out == new)?;
         self.unreadable("read of the old form, one byte fewer", &old[..old.len() - 1], capacity, TORN)?;
-        self.unreadable("read of the old form, one byte more", &new[..old.len() + 1], capacity, TORN)?;
+        self.unreadable("read of the old form, one byte more", &stored(&list, height, 8)[..old.len() + 1], capacity, TORN)?;
         self.unreadable("read of the old form, another height", &stored(&list, height + 1, 4), capacity, TALLY)
+    }
+
+    /// Reading onto a list with keys: 6, whatever the bytes hold, but that 10 comes first.
+    fn onto_keys(&mut self, bytes: &[u8], ours: &List) -> Same {
+        if ours.used == 0 {
+            return Ok(());
+        }
+        self.counts.left_out[3] += 1;
+        let stranger = stored(&[entry(5, 0, 0, 0)], 0, 8);
+        for (bytes, number) in [(bytes, LIST_FULL), (&[0; 8], LIST_FULL), (&stranger, LIST_FULL), (&stranger[1..], TORN)] {
+            let mut list = ours.clone();
+            let answer = port::read(bytes, &mut list);
+            self.refused("read onto keys", answer, number)?;
+            agree("read onto keys: the list", &list, ours, list == *ours)?;
+        }
+        Ok(())
     }
 
     /// Bytes that reading must refuse with this number, the list being as before.
@@ -598,10 +875,11 @@ impl Comparison {
         self.refused(what, answer, number)?;
         self.untouched(what, &list.keys, &old_words(3 * capacity))?;
         self.untouched(what, &list.multiplicities, &old_words(capacity))?;
-        self.untouched(what, &list.holds, &old_words(capacity))
+        self.untouched(what, &list.holds, &old_words(capacity))?;
+        self.others(what, &list, 0, 0)
     }
 
-    /// A list that document 01 does not admit; `entry` is the first entry that it refuses.
+    /// A list that document 01 does not admit; `entry` is the first counted entry that it refuses.
     fn refused_list(&mut self, list: &[Entry], ours: &List, extra: usize, entry: &Entry) -> Same {
         let reason = entry_reason(entry).unwrap();
         let plan = port::plan(ours);
@@ -702,7 +980,7 @@ impl Comparison {
     /// whose CI is none of the six is no entry. The port fills the list of these entries into as many rows as the table has.
     fn no_shorter(&mut self, rows: &[Row]) -> Same {
         let flagged = rows.iter().filter(|row| row[0] == 1 && OPCODES.contains(&row[3]));
-        let list: Vec<Entry> = flagged.map(|row| entry(row[3], row[4], row[6], 0)).collect();
+        let list: Vec<Entry> = flagged.map(|row| entry(row[3], row[4], row[6], 1)).collect();
         let height = theirs("height", || list.iter().map(|entry| oracle::height(entry.key)).sum::<u64>())?;
         self.counts.passing[0] += 1;
         self.counts.passing[1] += (height == rows.len() as u64) as u64;
@@ -845,6 +1123,7 @@ impl Comparison {
                 self.untouched("record, refused: keys", &ours.keys, &before.keys)?;
                 self.untouched("record, refused: multiplicities", &ours.multiplicities, &before.multiplicities)?;
                 self.untouched("record, refused: holds", &ours.holds, &before.holds)?;
+                self.others("record, refused", &ours, list.len(), ours.used)?;
                 match reason {
                     COUNT_FULL => self.note(listed::MULTIPLICITY),
                     LIST_FULL => self.note(listed::SIZE),
@@ -863,124 +1142,155 @@ impl Comparison {
             self.same("record: keys", &ours.keys, &expected.keys)?;
             self.same("record: multiplicities", &ours.multiplicities, &expected.multiplicities)?;
             self.same("record: holds", &ours.holds, &expected.holds)?;
+            self.others("record", &ours, list.len(), ours.used)?;
             entries = after;
         }
         Ok(())
     }
 
-    /// The original has no holds: it records the key of each accepted confirm and recording. Its multiplicity of a key, 0 where it has no such key, is the
-    /// port's; positions and holds are worked out here. Then, if no hold is open, the plan and the table, in which a key that was never counted has a section.
-    fn hold(&mut self, list: &[Entry], holds: &[u64], capacity: usize, calls: &[Call]) -> Same {
-        let mut ours = arrays(list, capacity);
-        ours.holds[..list.len()].copy_from_slice(holds);
-        // the original's list; and of each used place the key as it stands there, with its open holds
-        let mut entries = list.to_vec();
-        let mut places: Vec<(Key, u64)> = list.iter().map(|entry| entry.key).zip(holds.iter().copied()).collect();
-        let count = |entries: &[Entry], key: Key| {
-            entries.iter().find(|entry| admitted(entry.key) == admitted(key)).map_or(0, |entry| entry.multiplicity)
-        };
-        for &call in calls {
-            let before = ours.clone();
-            // the answer due, and the key that is counted
-            let (answer, due, counted) = match call {
-                Call::Record(raw) | Call::Hold(raw) => {
-                    let is_hold = matches!(call, Call::Hold(_));
-                    let answer = if is_hold { port::hold(&mut ours, raw) } else { port::record(&mut ours, raw) };
-                    let at = places.iter().position(|(key, _)| admitted(*key) == admitted(raw));
-                    let is_full = at.is_some_and(|at| {
-                        let count = count(&entries, raw);
-                        let is_full = u128::from(count) + u128::from(places[at].1) >= u128::from(MOST_COUNT);
-                        self.counts.holds[4] += (is_full && count < MOST_COUNT) as u64;
-                        is_full
-                    });
-                    let reason = key_reason(raw).or(match at {
-                        Some(_) => is_full.then_some(COUNT_FULL),
-                        None => (places.len() == capacity).then_some(LIST_FULL),
-                    });
-                    let due = reason.map_or_else(
-                        || {
-                            let at = at.unwrap_or(places.len());
-                            if at == places.len() {
-                                places.push((admitted(raw), 0));
-                            }
-                            places[at].1 += is_hold as u64;
-                            Ok(vec![at as u64, places.len() as u64])
-                        },
-                        Err,
-                    );
-                    self.counts.holds[0] += (is_hold && due.is_ok()) as u64;
-                    self.counts.recordings += (!is_hold) as u64;
-                    (answer.map(|words| words.to_vec()), due, (!is_hold).then_some(raw))
-                }
-                Call::Confirm(position) => {
-                    let answer = port::confirm(&mut ours, position);
-                    let key = places.get(position).map(|(key, _)| *key);
-                    let due = match places.get_mut(position).filter(|(_, holds)| *holds > 0) {
-                        None => Err(NO_HOLD),
-                        Some((key, _)) if count(&entries, *key) >= MOST_COUNT => Err(COUNT_FULL),
-                        Some((_, holds)) => {
-                            *holds -= 1;
-                            Ok(vec![])
-                        }
-                    };
-                    self.counts.holds[1] += due.is_ok() as u64;
-                    (answer.map(|_| vec![]), due, key)
-                }
-                Call::Drop(position) => {
-                    let answer = port::drop(&mut ours, position);
-                    let due = match places.get_mut(position).filter(|(_, holds)| *holds > 0) {
-                        None => Err(NO_HOLD),
-                        Some((_, holds)) => {
-                            *holds -= 1;
-                            Ok(vec![])
-                        }
-                    };
-                    self.counts.holds[2] += due.is_ok() as u64;
-                    (answer.map(|_| vec![]), due, None)
-                }
-            };
-            self.counts.holds[3] += (due == Err(NO_HOLD)) as u64;
-            if let Err(reason) = due {
-                *self.counts.refusals.entry(reason).or_default() += 1;
+    /// Two lists of the original, one a recorder: each records the key of each accepted confirm, recording and step of its recorder. Its multiplicity of a key,
+    /// 0 where it has no such key, is the port's; positions and holds are worked out here. Then the plan, the table and the stored list of each recorder.
+    fn shared(&mut self, places: &[Place], capacity: usize, calls: &[(usize, Call)], challenges: &Challenges) -> Same {
+        let old = arrays(&[], capacity);
+        let mut both = Shared::new(places, capacity);
+        let mut ours = both.arrays(&old);
+        let mut answered: [Vec<Option<usize>>; 2] = [vec![], vec![]];
+        let mut answers: [Vec<Made>; 2] = [vec![], vec![]];
+        let mut is_lawful = [places.is_empty(); 2];
+        for (who, call) in calls {
+            let who = *who;
+            self.count_call(&both, who, call);
+            if let Call::Confirm(number) | Call::Drop(number) = call {
+                is_lawful[who] &= answered[who].get(*number).is_some_and(Option::is_some);
             }
-            agree("a recording in two parts", &answer, &due, answer == due)?;
-            match (due, counted) {
-                (Err(_), _) => {
-                    self.untouched("refused: keys", &ours.keys, &before.keys)?;
-                    self.untouched("refused: multiplicities", &ours.multiplicities, &before.multiplicities)?;
-                    self.untouched("refused: holds", &ours.holds, &before.holds)?;
-                }
-                (Ok(_), Some(key)) => entries = theirs("record", || record(&entries, &[key]))?,
-                (Ok(_), None) => (),
-            }
-            ours.used = places.len();
-            let shown: Vec<Entry> = places.iter().map(|&(key, _)| Entry { key, multiplicity: count(&entries, key) }).collect();
-            let mut expected = arrays(&shown, capacity);
-            places.iter().enumerate().for_each(|(i, (_, holds))| expected.holds[i] = *holds);
+            let mut seen = seen_by(who, ours);
+            let answer = make(&mut seen, call, &answered[who]);
+            ours = seen_by(who, seen);
+            let due = both.make(who, call, &answered[who]);
+            agree("a call on a shared list", &answer, &due, answer == due)?;
+            self.count_answer(call, &due);
+            is_lawful[who] &= due.0 != LIST_FULL;
+            answered[who].push(answered_position(call, &due));
+            answers[who].push(due);
+            let expected = both.arrays(&old);
+            agree("used of a shared list", ours.used, expected.used, ours.used == expected.used)?;
             self.same("keys", &ours.keys, &expected.keys)?;
-            self.same("multiplicities", &ours.multiplicities, &expected.multiplicities)?;
-            self.same("holds", &ours.holds, &expected.holds)?;
+            self.same("multiplicities of the first", &ours.multiplicities, &expected.multiplicities)?;
+            self.same("holds of the first", &ours.holds, &expected.holds)?;
+            self.same("multiplicities of the second", &ours.other_multiplicities, &expected.other_multiplicities)?;
+            self.same("holds of the second", &ours.other_holds, &expected.other_holds)?;
         }
-        let shown: Vec<Entry> = places.iter().map(|&(key, _)| Entry { key, multiplicity: count(&entries, key) }).collect();
-        if places.iter().any(|(_, holds)| *holds > 0) {
-            let answer = port::plan(&ours);
-            self.refused("plan with an open hold", answer, OPEN_HOLD)?;
-            let (mut table, mut out) = (old_words(30), [7; 60]);
-            let answer = port::fill(&ours, &mut table);
-            self.refused("fill with an open hold", answer, OPEN_HOLD)?;
-            self.untouched("fill with an open hold: table", &table, &old_words(30))?;
-            let answer = port::write(&ours, &mut out);
-            self.refused("write with an open hold", answer, OPEN_HOLD)?;
-            agree("write with an open hold: bytes", out, 7, out == [7; 60])?;
-        } else if shown.iter().all(|entry| entry_reason(entry).is_none()) {
-            self.counts.holds[5] += 1;
-            self.counts.holds[6] +=
-                shown.iter().any(|shown| entries.iter().all(|entry| admitted(entry.key) != admitted(shown.key))) as u64;
-            let height = theirs("height", || list_height(&shown))?;
-            self.heights(&shown, &ours, height)?;
-            self.filled(&shown, &ours, height, 2)?;
+        for who in [0, 1] {
+            let seen = seen_by(who, ours.clone());
+            self.shared_run(&both, who, &seen, challenges)?;
+            if is_lawful[who] {
+                let own: Vec<&Call> = calls.iter().filter(|(whose, _)| *whose == who).map(|(_, call)| call).collect();
+                self.alone(&own, &answers[who], &seen, challenges)?;
+            }
         }
         Ok(())
+    }
+
+    /// What a call is about to meet.
+    fn count_call(&mut self, both: &Shared, who: usize, call: &Call) {
+        let (Call::Record(key) | Call::Hold(key)) = call else { return };
+        self.counts.recordings += matches!(call, Call::Record(_)) as u64;
+        let count = both.count(who, *key);
+        let own_keys = both.places.iter().filter(|(key, holds)| both.count(who, *key) > 0 || holds[who] > 0).count();
+        match both.find(*key) {
+            _ if key_reason(*key).is_some() => (),
+            Some(at) => {
+                let holds = both.places[at].1[who];
+                self.counts.shared[0] += (count == 0 && holds == 0) as u64;
+                let is_full = u128::from(count) + u128::from(holds) >= u128::from(MOST_COUNT);
+                self.counts.holds[4] += (is_full && count < MOST_COUNT) as u64;
+            }
+            None => self.counts.shared[1] += (both.places.len() == both.capacity && own_keys < both.capacity) as u64,
+        }
+    }
+
+    fn count_answer(&mut self, call: &Call, (number, _): &Made) {
+        let kind = match call {
+            Call::Hold(_) => Some(0),
+            Call::Confirm(_) => Some(1),
+            Call::Drop(_) => Some(2),
+            _ => None,
+        };
+        match (*number, kind) {
+            (0, Some(kind)) => self.counts.holds[kind] += 1,
+            (0, None) => (),
+            (number, _) => {
+                *self.counts.refusals.entry(number).or_default() += 1;
+                self.counts.holds[3] += (number == NO_HOLD) as u64;
+            }
+        }
+    }
+
+    /// A recorder's plan, table, sum, verdict and stored list: where a hold of its own is open, 15; else those of its own list of the original, but that the
+    /// sections stand in the order of the shared list.
+    fn shared_run(&mut self, both: &Shared, who: usize, ours: &List, challenges: &Challenges) -> Same {
+        let open = |who: usize| both.places.iter().any(|(_, holds)| holds[who] > 0);
+        let places = both.entries(who);
+        let (kept, list) = (counted(&places), &both.lists[who]);
+        if open(who) {
+            let answer = port::plan(ours);
+            self.refused("plan with an open hold", answer, OPEN_HOLD)?;
+            let (mut table, mut out) = (old_words(30), [7; 60]);
+            let answer = port::fill(ours, &mut table);
+            self.refused("fill with an open hold", answer, OPEN_HOLD)?;
+            self.untouched("fill with an open hold: table", &table, &old_words(30))?;
+            let answer = port::write(ours, &mut out);
+            self.refused("write with an open hold", answer, OPEN_HOLD)?;
+            return agree("write with an open hold: bytes", out, 7, out == [7; 60]);
+        }
+        if let Some(reason) = kept.iter().find_map(entry_reason) {
+            let answer = port::plan(ours);
+            return self.refused("plan of a shared list", answer, reason);
+        }
+        self.counts.holds[5] += 1;
+        self.counts.holds[6] += (kept.len() < places.len()) as u64;
+        self.counts.shared[2] += open(1 - who) as u64;
+        let keys = |list: &[Entry]| list.iter().map(|entry| admitted(entry.key)).collect::<Vec<Key>>();
+        self.counts.shared[3] += (keys(&kept) != keys(list)) as u64;
+        let height = theirs("height", || list_height(list))?;
+        self.heights(&kept, ours, height)?;
+        let rows = self.filled(&kept, ours, height, 2)?;
+        let aux = self.extended(&rows, challenges)?;
+        let alone = caught(|| {
+            let mut rows = vec![[0; 10]; height + 2];
+            fill(list, &mut rows);
+            pad(&mut rows, height);
+            extend(&rows, challenges)
+        });
+        let last = |aux: &Vec<Ext>| aux.last().copied();
+        let (ours_last, theirs_last) = (aux.as_ref().and_then(last), alone.ok().as_ref().and_then(last));
+        agree("the last sum of a recorder", ours_last, theirs_last, ours_last == theirs_last)?;
+        if let Some(aux) = aux {
+            let verdict = self.checked(&rows, &aux, challenges)?;
+            agree("the check of a recorder's table", verdict, None::<()>, verdict.is_none())?;
+        }
+        self.round_trip(&places, ours, height)
+    }
+
+    /// A recorder's own calls alone, on a fresh list of the same capacity: each has the number that it had, a replay as many steps done; plan, counts of keys
+    /// and the run of fill, pad, extend and check are those on the shared list. None of the calls met 6 there.
+    fn alone(&mut self, calls: &[&Call], answers: &[Made], shared: &List, challenges: &Challenges) -> Same {
+        self.counts.shared[4] += 1;
+        let mut list = arrays(&[], shared.capacity);
+        let mut answered = vec![];
+        for (call, (number, words)) in calls.iter().zip(answers) {
+            let answer = make(&mut list, call, &answered);
+            let is_same = answer.0 == *number && (!matches!(call, Call::Replay(_)) || answer.1[0] == words[0]);
+            agree("a call of one recorder, alone and beside the other", &answer, (number, words), is_same)?;
+            answered.push(answered_position(call, &answer));
+        }
+        let of = |list: &List| {
+            let places = list.keys.as_chunks().0.iter().zip(&list.multiplicities).take(list.used);
+            let counts: BTreeMap<Key, u64> = places.filter(|place| *place.1 > 0).map(|(&key, &count)| (key, count)).collect();
+            (counts, port::plan(list), whole_run(list, challenges))
+        };
+        let (alone, beside) = (of(&list), of(shared));
+        agree("one recorder's run, alone and beside the other", &alone, &beside, alone == beside)
     }
 
     /// The original records the entries of the steps one after the other, up to the first step that is refused.
@@ -1015,7 +1325,8 @@ impl Comparison {
         let expected = arrays(&entries, capacity);
         self.same("replay: keys", &ours.keys, &expected.keys)?;
         self.same("replay: multiplicities", &ours.multiplicities, &expected.multiplicities)?;
-        self.same("replay: holds", &ours.holds, &expected.holds)
+        self.same("replay: holds", &ours.holds, &expected.holds)?;
+        self.others("replay", &ours, list.len(), entries.len())
     }
 
     /// The requests' rows are the first rows of the sections that the original fills. Its fold over them is the sum, its `compute_terminal` too where the
@@ -1346,25 +1657,36 @@ impl Case {
                 ways.extend(capacities.map(|capacity| case(list, capacity as usize, keys)));
                 ways
             }
-            Case::Hold { list, holds, capacity, calls } => {
-                let case = |both: &[(Entry, u64)], capacity, calls: &[Call]| {
-                    let (list, holds) = both.iter().copied().unzip();
-                    Case::Hold { list, holds, capacity, calls: calls.to_vec() }
+            Case::Shared { places, capacity, calls, challenges } => {
+                let case = |places: &[Place], capacity, calls: &[(usize, Call)], challenges| Case::Shared {
+                    places: places.to_vec(),
+                    capacity,
+                    calls: calls.to_vec(),
+                    challenges,
                 };
-                let both: Vec<(Entry, u64)> = list.iter().copied().zip(holds.iter().copied()).collect();
-                let mut ways: Vec<Case> = without(calls).iter().map(|calls| case(&both, *capacity, calls)).collect();
-                ways.extend(without(&both).iter().map(|both| case(both, *capacity, calls)));
-                for i in 0..both.len() {
-                    for [multiplicity, holds] in
-                        each_smaller(&[both[i].0.multiplicity, both[i].1]).iter().map(|words| [words[0], words[1]])
-                    {
-                        let mut way = both.clone();
-                        way[i] = (Entry { multiplicity, ..way[i].0 }, holds);
-                        ways.push(case(&way, *capacity, calls));
+                let mut ways: Vec<Case> =
+                    without(calls).iter().map(|calls| case(places, *capacity, calls, *challenges)).collect();
+                ways.extend(without(places).iter().map(|places| case(places, *capacity, calls, *challenges)));
+                for (i, (who, call)) in calls.iter().enumerate() {
+                    let Call::Replay(trace) = call else { continue };
+                    for trace in smaller_keys(trace) {
+                        let mut way = calls.clone();
+                        way[i] = (*who, Call::Replay(trace));
+                        ways.push(case(places, *capacity, &way, *challenges));
                     }
                 }
-                let capacities = smaller_words(*capacity as u64).into_iter().filter(|&capacity| capacity >= list.len() as u64);
-                ways.extend(capacities.map(|capacity| case(&both, capacity as usize, calls)));
+                for (i, Place { key, counts, holds }) in places.iter().enumerate() {
+                    for words in each_smaller(&[*counts, *holds].concat()) {
+                        let mut way = places.clone();
+                        way[i] = Place { key: *key, counts: [words[0], words[1]], holds: [words[2], words[3]] };
+                        ways.push(case(&way, *capacity, calls, *challenges));
+                    }
+                }
+                let capacities = smaller_words(*capacity as u64).into_iter().filter(|&capacity| capacity >= places.len() as u64);
+                ways.extend(capacities.map(|capacity| case(places, capacity as usize, calls, *challenges)));
+                if *challenges != PLAIN {
+                    ways.push(case(places, *capacity, calls, PLAIN));
+                }
                 ways
             }
             Case::Replay { list, capacity, trace } => {
@@ -1462,15 +1784,13 @@ impl std::fmt::Display for Case {
                 entries(f, list)?;
                 keys.iter().try_for_each(|key| writeln!(f, "  record {}", words(key)))
             }
-            Case::Hold { list, holds, capacity, calls } => {
-                writeln!(
-                    f,
-                    "recordings in two parts onto a list of {}, capacity {capacity}, holds {}",
-                    list.len(),
-                    words(holds)
-                )?;
-                entries(f, list)?;
-                calls.iter().try_for_each(|call| writeln!(f, "  {call:?}"))
+            Case::Shared { places, capacity, calls, challenges } => {
+                writeln!(f, "calls of two recorders on a list of {}, capacity {capacity}", places.len())?;
+                for Place { key, counts, holds } in places {
+                    writeln!(f, "  key {} multiplicities {} holds {}", words(key), words(counts), words(holds))?;
+                }
+                calls.iter().try_for_each(|(who, call)| writeln!(f, "  recorder {who}: {call:?}"))?;
+                writeln!(f, "  challenges {}", words(challenges))
             }
             Case::Replay { list, capacity, trace } => {
                 writeln!(f, "a replay onto a list of {}, capacity {capacity}", list.len())?;

@@ -93,6 +93,14 @@ fn compare(seed: u64, size: Size) -> ExitCode {
             println!("NOT COMPARED (seed {seed}): recordings in two parts, {:?}", counts.holds);
             ExitCode::FAILURE
         }
+        None if counts.shared.contains(&0) => {
+            println!("NOT COMPARED (seed {seed}): two recorders, {:?}", counts.shared);
+            ExitCode::FAILURE
+        }
+        None if counts.left_out.contains(&0) => {
+            println!("NOT COMPARED (seed {seed}): multiplicities of 0, {:?}", counts.left_out);
+            ExitCode::FAILURE
+        }
         None if counts.stops.contains(&0) => {
             println!("NOT COMPARED (seed {seed}): steps of div_mod that stop, {:?}", counts.stops);
             ExitCode::FAILURE
@@ -123,9 +131,17 @@ fn print_counts(counts: &Counts) {
         "rows against heights, of changed and foreign tables that pass {} as many rows as the heights {}",
         counts.passing[0], counts.passing[1]
     );
-    let [held, confirmed, dropped, none, full, filled, never] = counts.holds;
+    let [held, confirmed, dropped, none, full, filled, left_out] = counts.holds;
     println!(
-        "held {held} confirmed {confirmed} dropped {dropped} refused with 16 {none} with 5 by the holds {full}; filled then {filled} with a key never counted {never}"
+        "held {held} confirmed {confirmed} dropped {dropped} refused with 16 {none} with 5 by the holds {full}; filled then {filled} with a key left out {left_out}"
+    );
+    let [found, no_room, beside_open, order, alone] = counts.shared;
+    println!(
+        "two recorders: keys of the other one found {found} no room for them {no_room}; planned beside an open hold {beside_open} keys in another order {order}; own calls alone {alone}"
+    );
+    let [places, not_admitted, stored, onto_keys] = counts.left_out;
+    println!(
+        "places left out {places} not admitted {not_admitted} stored lists with such {stored}; readings onto a list with keys {onto_keys}"
     );
     println!(
         "replays {} steps done {}; div_mod stopped at split's 6 {} at lt's 5 with split's 6 {} at 13 {}",
@@ -295,6 +311,7 @@ impl Run {
         };
         let mut list = random.list(most);
         list.iter_mut().for_each(|entry| entry.key = now_and_then_raw(random, entry.key));
+        leave_out_some(random, &mut list);
         let challenges = challenges(random);
         let (spare, extra) = (random.below(4) as usize, random.below(5) as usize);
         let small: Vec<Entry> = list.iter().take(3).copied().collect();
@@ -305,7 +322,7 @@ impl Run {
             foreign_table(random),
             random_table(random),
             recordings(random),
-            two_parts(random),
+            shared(random),
             replays(random),
             requests(random, most),
             look_ups(random),
@@ -352,7 +369,15 @@ fn challenges(random: &mut Random) -> Challenges {
     }
 }
 
-/// A list with an entry or two that document 01 does not admit, whose multiplicity is at the limit, or whose base of pow is p or more.
+/// In every fourth list, each second multiplicity or so becomes 0.
+fn leave_out_some(random: &mut Random, list: &mut [Entry]) {
+    if random.below(4) == 0 {
+        list.iter_mut().filter(|_| random.below(2) == 0).for_each(|entry| entry.multiplicity = 0);
+    }
+}
+
+/// A list with an entry or two that document 01 does not admit, whose multiplicity is at the limit, or whose base of pow is p or more; now and then such an
+/// entry is left out.
 fn damaged_list(random: &mut Random) -> Case {
     let mut list = random.list(4);
     for _ in 0..=random.below(2) {
@@ -364,6 +389,9 @@ fn damaged_list(random: &mut Random) -> Case {
             3 => entry.key = [12, 0, random.operand()],
             4 => entry.multiplicity = random.one_of(&[1 << 32, P - 1, P, P + 1, u64::MAX, any]),
             _ => entry.key = [30, random.one_of(&[P, P + 1, u64::MAX]), random.operand()],
+        }
+        if random.below(4) == 0 {
+            entry.multiplicity = 0;
         }
         let i = random.below(list.len() as u64 + 1) as usize;
         list.insert(i, entry);
@@ -490,69 +518,94 @@ fn recordings(random: &mut Random) -> Case {
     Case::Record { list, capacity, keys }
 }
 
-/// Holds, confirms, drops and recordings of few keys onto a fresh list, or onto one whose counts and holds are often at the limit; positions are now and then
-/// past the list. Half of them end with as many drops as holds may be open.
-fn two_parts(random: &mut Random) -> Case {
+/// Holds, confirms, drops, recordings and replays of few keys by two recorders, in a quarter of the cases by one of them alone, onto a fresh list, or onto
+/// one whose counts and holds are often at the limit; confirms and drops are now and then not of an earlier call. Half of the cases end with a drop of each hold.
+fn shared(random: &mut Random) -> Case {
+    let few = few_values(random);
+    let steps: Vec<Key> = (0..4).map(|_| step(random, &few)).collect();
     let mut keys: Vec<Key> = (0..1 + random.below(4)).map(|_| random.key()).collect();
+    for step in &steps[..random.below(4) as usize] {
+        keys.extend(step_entries(*step).unwrap_or_default());
+    }
     if random.below(4) == 0 {
         keys.push(random.one_of(&[[5, 0, 0], [14, 1 << 32, 0], [12, 0, 3], [30, 0, 1 << 32]]));
     }
-    let (mut list, mut holds): (Vec<Entry>, Vec<u64>) = (vec![], vec![]);
+    let mut places: Vec<Place> = vec![];
     if random.below(2) == 0 {
         for key in keys.clone() {
-            let is_fine = list.iter().all(|entry| admitted(entry.key) != admitted(key)) && key != [5, 0, 0];
-            if is_fine && key[1] < P && key[2] < 1 << 32 && (key[0] == 30 || key[1] < 1 << 32) && (key[0], key[1]) != (12, 0) {
-                let multiplicity = random.one_of(&[0, 1, 1 << 32, P - 3, P - 2, P - 1, P, u64::MAX]);
-                list.push(Entry { key: now_and_then_raw(random, key), multiplicity });
-                holds.push(random.one_of(&[0, 0, 1, 2, 1 << 32, P - 2, P - 1, u64::MAX]));
+            if is_admitted(key) && places.iter().all(|place| admitted(place.key) != admitted(key)) {
+                let count = |random: &mut Random| random.one_of(&[0, 0, 1, 1 << 32, P - 3, P - 2, P - 1, P, u64::MAX]);
+                let holds = |random: &mut Random| random.one_of(&[0, 0, 0, 1, 2, 1 << 32, P - 2, P - 1, u64::MAX]);
+                places.push(Place {
+                    key: now_and_then_raw(random, key),
+                    counts: [count(random), count(random)],
+                    holds: [holds(random), holds(random)],
+                });
             }
         }
     }
-    let capacity = list.len() + random.below(4) as usize;
-    let mut calls: Vec<Call> = vec![];
-    for _ in 0..random.below(14) {
+    let capacity = places.len() + random.below(7) as usize;
+    let only = (random.below(4) == 0).then(|| random.below(2) as usize);
+    let mut calls: Vec<(usize, Call)> = vec![];
+    let made = |calls: &[(usize, Call)], who: usize| calls.iter().filter(|(whose, _)| *whose == who).count();
+    for _ in 0..random.below(16) {
+        let who = only.unwrap_or(random.below(2) as usize);
         let key = random.one_of(&keys);
         let key = now_and_then_raw(random, key);
-        let position = if random.below(8) == 0 { random.word() } else { random.below(capacity as u64 + 1) } as usize;
-        calls.push(match random.below(8) {
-            0 | 1 => Call::Record(key),
-            2..=4 => Call::Hold(key),
-            5 | 6 => Call::Confirm(position),
-            _ => Call::Drop(position),
-        });
+        let earlier = match random.below(8) {
+            0 => random.word() as usize,
+            1 => random.below(capacity as u64 + 1) as usize,
+            _ => random.below(made(&calls, who).max(1) as u64) as usize,
+        };
+        let call = match random.below(16) {
+            0..4 => Call::Record(key),
+            4..9 => Call::Hold(key),
+            9..12 => Call::Confirm(earlier),
+            12..14 => Call::Drop(earlier),
+            _ => Call::Replay((0..random.below(4)).map(|_| random.one_of(&steps)).collect()),
+        };
+        calls.push((who, call));
     }
     if random.below(2) == 0 {
-        let open = calls.iter().filter(|call| matches!(call, Call::Hold(_))).count();
-        calls.extend((0..capacity).flat_map(|position| vec![Call::Drop(position); open]));
+        for who in [0, 1] {
+            let own = calls.iter().filter(|(whose, _)| *whose == who).enumerate();
+            let held: Vec<usize> = own.filter(|(_, (_, call))| matches!(call, Call::Hold(_))).map(|(i, _)| i).collect();
+            calls.extend(held.into_iter().map(|i| (who, Call::Drop(i))));
+        }
     }
-    Case::Hold { list, holds, capacity, calls }
+    Case::Shared { places, capacity, calls, challenges: challenges(random) }
 }
 
-/// Steps of the ten opcodes with few values, so that keys are met again, onto a list with at most eight unused places, some of whose keys a step of the
-/// trace records and whose multiplicities are often at the limit; now and then another opcode or any words.
-fn replays(random: &mut Random) -> Case {
-    let few: Vec<u64> = (0..2).map(|_| random.operand()).chain([0, 1, 2, 3, 4]).collect();
+/// Values of steps, few of them, so that keys are met again.
+fn few_values(random: &mut Random) -> Vec<u64> {
+    (0..2).map(|_| random.operand()).chain([0, 1, 2, 3, 4]).collect()
+}
+
+/// A step of the ten opcodes with one of these values, often div_mod; now and then another opcode or any words.
+fn step(random: &mut Random, few: &[u64]) -> Key {
     let value = |random: &mut Random| match random.below(32) {
         0 => random.one_of(&[1 << 32, (1 << 32) + 1, P - 1, P, P + 1, u64::MAX]),
         1 => any_word(random),
-        _ => random.one_of(&few),
+        _ => random.one_of(few),
     };
-    let step = |random: &mut Random| {
-        let opcode = match random.below(24) {
-            0 => random.one_of(&[0, 5, 8, 21, 23, 40, 256 + 4, (1 << 32) + 20, P + 4, u64::MAX]),
-            1..8 => 20,
-            _ => random.one_of(&[4, 6, 12, 14, 28, 30, 20, 22, 36, 44]),
-        };
-        let first = if opcode == 4 && random.below(2) == 0 { random.below(P) } else { value(random) };
-        [opcode, first, value(random)]
+    let opcode = match random.below(24) {
+        0 => random.one_of(&[0, 5, 8, 21, 23, 40, 256 + 4, (1 << 32) + 20, P + 4, u64::MAX]),
+        1..8 => 20,
+        _ => random.one_of(&[4, 6, 12, 14, 28, 30, 20, 22, 36, 44]),
     };
-    let trace: Vec<Key> = (0..random.below(7)).map(|_| step(random)).collect();
+    let first = if opcode == 4 && random.below(2) == 0 { random.below(P) } else { value(random) };
+    [opcode, first, value(random)]
+}
+
+/// Steps onto a list with at most eight unused places, some of whose keys a step of the trace records and whose multiplicities are often at the limit.
+fn replays(random: &mut Random) -> Case {
+    let few = few_values(random);
+    let trace: Vec<Key> = (0..random.below(7)).map(|_| step(random, &few)).collect();
     let mut list: Vec<Entry> = vec![];
     for step in &trace {
         for key in step_entries(*step).unwrap_or_default() {
-            let is_new =
-                list.iter().all(|entry| entry.key != key) && OPCODES.contains(&key[0]) && key[1] < 1 << 32 && key[2] < 1 << 32;
-            if is_new && (key[0], key[1]) != (12, 0) && random.below(4) == 0 {
+            let is_new = list.iter().all(|entry| entry.key != key) && is_admitted(key) && key[1] < 1 << 32;
+            if is_new && random.below(4) == 0 {
                 let multiplicity = random.one_of(&[0, 1, 1 << 32, P - 2, P - 1, P - 1, P, u64::MAX]);
                 list.push(Entry { key, multiplicity });
             }

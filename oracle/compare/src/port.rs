@@ -15,16 +15,20 @@ pub type Answer<const N: usize> = Result<[u64; N], u64>;
 
 /// What a call hands back: its number, or one of its arrays. With a fault set, one word of it is changed after every twentieth such call,
 /// as a wrong library would: the comparison must find it.
-pub const FAULTS: [&str; 61] = [
+pub const FAULTS: [&str; 69] = [
     "record number",
     "record keys",
     "record multiplicities",
     "record holds",
+    "record other multiplicities",
+    "record other holds",
     "record answers",
     "hold number",
     "hold keys",
     "hold multiplicities",
     "hold holds",
+    "hold other multiplicities",
+    "hold other holds",
     "hold answers",
     "confirm number",
     "confirm multiplicities",
@@ -35,6 +39,8 @@ pub const FAULTS: [&str; 61] = [
     "replay keys",
     "replay multiplicities",
     "replay holds",
+    "replay other multiplicities",
+    "replay other holds",
     "replay answers",
     "compare number",
     "compare answers",
@@ -44,6 +50,8 @@ pub const FAULTS: [&str; 61] = [
     "read keys",
     "read multiplicities",
     "read holds",
+    "read other multiplicities",
+    "read other holds",
     "read answers",
     "write number",
     "write out",
@@ -196,7 +204,8 @@ fn answers(call: &'static str, n: usize) -> Lent<u64> {
 
 // ------------------------------------------------------------------------------------------------------------------- the calls
 
-/// A list: capacity and used, keys (three words a place), multiplicities and holds.
+/// A list as one of its two recorders sees it: capacity and used, keys (three words a place), its own multiplicities and holds, and those of
+/// the other one.
 #[derive(Debug, Clone, Eq, PartialEq)]
 pub struct List {
     pub capacity: usize,
@@ -204,6 +213,21 @@ pub struct List {
     pub keys: Vec<u64>,
     pub multiplicities: Vec<u64>,
     pub holds: Vec<u64>,
+    pub other_multiplicities: Vec<u64>,
+    pub other_holds: Vec<u64>,
+}
+
+impl List {
+    /// As the other recorder sees it.
+    pub fn exchanged(self) -> List {
+        List {
+            multiplicities: self.other_multiplicities,
+            holds: self.other_holds,
+            other_multiplicities: self.multiplicities,
+            other_holds: self.holds,
+            ..self
+        }
+    }
 }
 
 /// Position and used.
@@ -212,6 +236,8 @@ pub fn record(list: &mut List, [opcode, lhs, rhs]: [u64; 3]) -> Answer<2> {
     let mut keys = Lent::new(call, "keys", &list.keys);
     let mut multiplicities = Lent::new(call, "multiplicities", &list.multiplicities);
     let mut holds = Lent::new(call, "holds", &list.holds);
+    let mut other_multiplicities = Lent::new(call, "other multiplicities", &list.other_multiplicities);
+    let mut other_holds = Lent::new(call, "other holds", &list.other_holds);
     let mut answers = answers(call, 2);
     let number = unsafe {
         c::u32_table_record(
@@ -223,6 +249,10 @@ pub fn record(list: &mut List, [opcode, lhs, rhs]: [u64; 3]) -> Answer<2> {
             multiplicities.len(),
             holds.pointer(),
             holds.len(),
+            other_multiplicities.pointer(),
+            other_multiplicities.len(),
+            other_holds.pointer(),
+            other_holds.len(),
             opcode,
             lhs,
             rhs,
@@ -233,6 +263,8 @@ pub fn record(list: &mut List, [opcode, lhs, rhs]: [u64; 3]) -> Answer<2> {
     keys.back(&mut list.keys);
     multiplicities.back(&mut list.multiplicities);
     holds.back(&mut list.holds);
+    other_multiplicities.back(&mut list.other_multiplicities);
+    other_holds.back(&mut list.other_holds);
     answered(number, answers, |_| 2)
 }
 
@@ -242,6 +274,8 @@ pub fn hold(list: &mut List, [opcode, lhs, rhs]: [u64; 3]) -> Answer<2> {
     let mut keys = Lent::new(call, "keys", &list.keys);
     let mut multiplicities = Lent::new(call, "multiplicities", &list.multiplicities);
     let mut holds = Lent::new(call, "holds", &list.holds);
+    let mut other_multiplicities = Lent::new(call, "other multiplicities", &list.other_multiplicities);
+    let mut other_holds = Lent::new(call, "other holds", &list.other_holds);
     let mut answers = answers(call, 2);
     let number = unsafe {
         c::u32_table_hold(
@@ -253,6 +287,10 @@ pub fn hold(list: &mut List, [opcode, lhs, rhs]: [u64; 3]) -> Answer<2> {
             multiplicities.len(),
             holds.pointer(),
             holds.len(),
+            other_multiplicities.pointer(),
+            other_multiplicities.len(),
+            other_holds.pointer(),
+            other_holds.len(),
             opcode,
             lhs,
             rhs,
@@ -263,6 +301,8 @@ pub fn hold(list: &mut List, [opcode, lhs, rhs]: [u64; 3]) -> Answer<2> {
     keys.back(&mut list.keys);
     multiplicities.back(&mut list.multiplicities);
     holds.back(&mut list.holds);
+    other_multiplicities.back(&mut list.other_multiplicities);
+    other_holds.back(&mut list.other_holds);
     answered(number, answers, |_| 2)
 }
 
@@ -320,6 +360,8 @@ pub fn replay(list: &mut List, trace: &[u64]) -> (u64, [u64; 2]) {
     let mut keys = Lent::new(call, "keys", &list.keys);
     let mut multiplicities = Lent::new(call, "multiplicities", &list.multiplicities);
     let mut holds = Lent::new(call, "holds", &list.holds);
+    let mut other_multiplicities = Lent::new(call, "other multiplicities", &list.other_multiplicities);
+    let mut other_holds = Lent::new(call, "other holds", &list.other_holds);
     let mut steps = Lent::new(call, "trace", trace);
     let mut answers = answers(call, 2);
     let number = unsafe {
@@ -332,6 +374,10 @@ pub fn replay(list: &mut List, trace: &[u64]) -> (u64, [u64; 2]) {
             multiplicities.len(),
             holds.pointer(),
             holds.len(),
+            other_multiplicities.pointer(),
+            other_multiplicities.len(),
+            other_holds.pointer(),
+            other_holds.len(),
             steps.pointer(),
             steps.len(),
             answers.pointer(),
@@ -341,6 +387,8 @@ pub fn replay(list: &mut List, trace: &[u64]) -> (u64, [u64; 2]) {
     keys.back(&mut list.keys);
     multiplicities.back(&mut list.multiplicities);
     holds.back(&mut list.holds);
+    other_multiplicities.back(&mut list.other_multiplicities);
+    other_holds.back(&mut list.other_holds);
     steps.unchanged(trace);
     let words = answers.content();
     assert!(words[2..] == [OLD; 2], "the port: replay wrote to answers past the second");
@@ -484,6 +532,8 @@ pub fn read(bytes: &[u8], list: &mut List) -> Answer<1> {
     let mut keys = Lent::new(call, "keys", &list.keys);
     let mut multiplicities = Lent::new(call, "multiplicities", &list.multiplicities);
     let mut holds = Lent::new(call, "holds", &list.holds);
+    let mut other_multiplicities = Lent::new(call, "other multiplicities", &list.other_multiplicities);
+    let mut other_holds = Lent::new(call, "other holds", &list.other_holds);
     let mut answers = answers(call, 1);
     let number = unsafe {
         c::u32_table_read(
@@ -497,6 +547,10 @@ pub fn read(bytes: &[u8], list: &mut List) -> Answer<1> {
             multiplicities.len(),
             holds.pointer(),
             holds.len(),
+            other_multiplicities.pointer(),
+            other_multiplicities.len(),
+            other_holds.pointer(),
+            other_holds.len(),
             answers.pointer(),
             answers.len(),
         )
@@ -505,6 +559,8 @@ pub fn read(bytes: &[u8], list: &mut List) -> Answer<1> {
     keys.back(&mut list.keys);
     multiplicities.back(&mut list.multiplicities);
     holds.back(&mut list.holds);
+    other_multiplicities.back(&mut list.other_multiplicities);
+    other_holds.back(&mut list.other_holds);
     answered(number, answers, |_| 1)
 }
 

@@ -66,6 +66,16 @@ fn no_entries() {
     assert_eq!(expected, text::session(&[], &PLAIN));
 }
 
+/// A key counted zero times is an entry of the stored list and has no section.
+#[test]
+fn a_key_counted_zero_times() {
+    let alone = text::session(&[entry(14, 3, 1, 2)], &PLAIN);
+    let session = text::session(&[entry(14, 1, 1, 0), entry(14, 3, 1, 2)], &PLAIN);
+    assert_eq!(alone.replace("entries 1", "entries 2"), session);
+    let none = text::session(&[], &PLAIN).replace("entries 0", "entries 1");
+    assert_eq!(none, text::session(&[entry(14, 1, 1, 0)], &PLAIN));
+}
+
 /// "Copying Result into the padding after lt on 0 and 0."
 #[test]
 fn padding_after_lt_on_zeros() {

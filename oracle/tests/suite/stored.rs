@@ -3,12 +3,12 @@ use std::path::{Path, PathBuf};
 
 use oracle::*;
 
-/// U32LIST_CASES: the folder of the cases (default: ../shared/cases-09 beside the repository).
+/// U32LIST_CASES: the folder of the cases (default: ../shared/cases-11 beside the repository).
 #[test]
 fn cases() {
     let folder = match std::env::var_os("U32LIST_CASES") {
         Some(folder) => PathBuf::from(folder),
-        None => Path::new(env!("CARGO_MANIFEST_DIR")).join("../../shared/cases-09"),
+        None => Path::new(env!("CARGO_MANIFEST_DIR")).join("../../shared/cases-11"),
     };
     let cases = text::cases(&folder).unwrap_or_else(|error| {
         panic!("{}: {error}\nSet U32LIST_CASES to the folder of the cases of u32list.", folder.display())

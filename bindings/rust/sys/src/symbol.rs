@@ -2,6 +2,6 @@
 // crates/u32_table and in include/u32_table.h.
 macro_rules! symbol {
     () => {
-        "u32_table_abi_2"
+        "u32_table_abi_3"
     };
 }

@@ -4,16 +4,16 @@ use native.Mathlib.Omega.{arith}
 use borrow.Author.Needs.{needs}
 use Rattle.words.specs.Answers.{Answer}
 use Rattle.list_record.specs.Recording.{recordedAnswer}
-use Rattle.c_answers.proofs.Exporting.{short, list-short, list-called, work-done, refused-by-number}
-use Rattle.c_lists.proofs.Listed.{recorded}
+use Rattle.c_answers.proofs.Exporting.{short, work-done, refused-by-number}
+use Rattle.c_lists.proofs.Listed.{recorded, shared-short, shared-called}
 use Rattle.c_lists.proofs.record_entry.Statement.{statement}
 use Rattle.c_lists.proofs.record_entry.Tie as tie
 
 returns : tie.Need-returns
-returns c = (short _ _ _ (c .if1 .taken), list-short _ _ _ _ (c .if1 .taken))
+returns c = (short _ _ _ (c .if1 .taken), shared-short _ _ _ _ (c .if1 .taken))
 
-record-lending-requires : tie.Need-record-lending-requires
-record-lending-requires c κs = search needs
+record-shared-requires : tie.Need-record-shared-requires
+record-shared-requires c κs = search needs
 
 enum-known-answer : tie.Need-enum-known-answer
 enum-known-answer c = search needs
@@ -42,31 +42,45 @@ same-length-3 c = search needs
 same-length-4 : tie.Need-same-length-4
 same-length-4 c = search needs
 
-returns-2 : tie.Need-returns-2
-returns-2 c =
-    let call = c .before .before .before .before .before .before .before .before .before .record-lending in
-    let left = c .before .before .before .before .before .before .before .before .before .before .before .before .before .if1 .left in (
-      work-done left (recorded _ _ _ (ap recordedAnswer (sym (c .before .answer .given .1)) ∙ call .ensures .answer) (call .ensures .left)) (omega arith),
-      list-called _ _ _ _ _ _ _ _ left (call .ensures .left),
-    )
-
 same-length-5 : tie.Need-same-length-5
 same-length-5 c = search needs
 
 same-length-6 : tie.Need-same-length-6
 same-length-6 c = search needs
 
+returns-2 : tie.Need-returns-2
+returns-2 c =
+    let made = c .before .before .before .before .before .before .before .before .before .before .before .before .before in
+    let call = made .record-shared in
+    let left = made .before .before .before .before .before .before .if1 .left in (
+      work-done left (recorded _ _ _ (ap recordedAnswer (sym (c .before .answer .given .1)) ∙ call .ensures .answer) (call .ensures .left)) (omega arith),
+      shared-called _ _ _ _ _ _ _ _ _ left (call .ensures .left),
+    )
+
 same-length-7 : tie.Need-same-length-7
 same-length-7 c = search needs
 
+same-length-8 : tie.Need-same-length-8
+same-length-8 c = search needs
+
+same-length-9 : tie.Need-same-length-9
+same-length-9 c = search needs
+
+same-length-10 : tie.Need-same-length-10
+same-length-10 c = search needs
+
+same-length-11 : tie.Need-same-length-11
+same-length-11 c = search needs
+
 returns-3 : tie.Need-returns-3
 returns-3 c =
-    let call = c .before .before .before .before .before .before .before .before .before .before .record-lending in
-    let left = c .before .before .before .before .before .before .before .before .before .before .before .before .before .before .if1 .left in
+    let made = c .before .before .before .before .before .before .before .before .before .before .before .before .before .before in
+    let call = made .record-shared in
+    let left = made .before .before .before .before .before .before .if1 .left in
     let answer = c .before .before .answer2 in (
       refused-by-number (answer .given .0 .0) left (c .number .ensures)
           (ap (λ (a : Answer). a .number) (ap recordedAnswer (sym (answer .given .1)) ∙ call .ensures .answer)),
-      list-called _ _ _ _ _ _ _ _ left (call .ensures .left),
+      shared-called _ _ _ _ _ _ _ _ _ left (call .ensures .left),
     )
 
 pub record-entry-spec : {M : Type 1} → statement M
@@ -74,7 +88,7 @@ record-entry-spec =
     tie.close
     (tie.spec
     returns
-    record-lending-requires
+    record-shared-requires
     enum-known-answer
     slice-write-answers
     slice-write-answers-2
@@ -84,8 +98,12 @@ record-entry-spec =
     same-length-2
     same-length-3
     same-length-4
-    returns-2
     same-length-5
     same-length-6
+    returns-2
     same-length-7
+    same-length-8
+    same-length-9
+    same-length-10
+    same-length-11
     returns-3)

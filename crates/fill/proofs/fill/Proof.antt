@@ -1,9 +1,8 @@
--- `fill::fill` meets its contract: each way out is a lemma of proofs/Fillings.antt. The arrays that are lent on are those of the list that gets
--- sections. Assumes nothing.
+-- `fill::fill` meets its contract: each way out is a lemma of proofs/Fillings.antt. Assumes nothing.
 use mathlib.Core.Path.{sym, _∙_}
 use native.Mathlib.Omega.{arith}
 use Rattle.list.specs.Holds.{sectionList}
-use Rattle.list.proofs.HeldLists.{held-height, held-refused, held-judged}
+use Rattle.list.proofs.HeldLists.{held-shaped, held-told, held-height, held-refused, held-judged}
 use Rattle.fill.proofs.Fillings.{fill-shape, fill-list, fill-short, fill-done}
 use borrow.Author.Needs.{needs}
 use borrow.Author.Tests.{not-true, not-false}
@@ -40,13 +39,17 @@ returns-2 c =
     let j = held-height _ _ (sym (h .height .given .1) ∙ l .judge-held .ensures) in
     fill-short _ _ (sym (s .has-shape .ensures) ∙ not-false _ (t .if1 .left)) (j .0) (omega arith)
 
-fill-sections-requires : tie.Need-fill-sections-requires
+fill-counted-requires : tie.Need-fill-counted-requires
 unfolding sectionList
-fill-sections-requires c κs =
+fill-counted-requires c κs =
     let h = c .before .before .before in
     let l = h .before .before in
     let j = held-height _ _ (sym (h .height .given .1) ∙ l .judge-held .ensures) in
-    (held-judged _ (j .0), omega arith)
+    let fits = held-shaped _ (held-told _ (j .0) .0) .list in
+    let within = fits .within in (
+      (omega (arith, within, fits .small), omega (arith, within, fits .keys), omega (arith, within, fits .multiplicities)),
+      (held-judged _ (j .0), omega arith),
+    )
 
 same-length-3 : tie.Need-same-length-3
 same-length-3 c = search needs
@@ -71,7 +74,7 @@ returns-4 c =
     let t = l .before in
     let s = t .before in
     let j = held-height _ _ (sym (h .height .given .1) ∙ l .judge-held .ensures) in
-    fill-done _ _ (sym (s .has-shape .ensures) ∙ not-false _ (t .if1 .left)) (j .0) (omega arith) (f .fill-sections .ensures .0) (f .fill-sections .ensures .1)
+    fill-done _ _ (sym (s .has-shape .ensures) ∙ not-false _ (t .if1 .left)) (j .0) (omega arith) (f .fill-counted .ensures .0) (f .fill-counted .ensures .1)
 
 pub fill-spec : {M : Type 1} → statement M
 fill-spec =
@@ -85,7 +88,7 @@ fill-spec =
     enum-known-height
     same-length-2
     returns-2
-    fill-sections-requires
+    fill-counted-requires
     same-length-3
     returns-3
     same-length-4

@@ -1,4 +1,4 @@
--- `list::judge_held` meets its contract: reason 1, then 15, then what `judge_list` answers of the list that gets sections. Assumes nothing.
+-- `list::judge_held` meets its contract: reason 1, then 15, then what `judge_counted` answers of the list that gets sections. Assumes nothing.
 use mathlib.Core.Path.{_≡_, sym, _∙_}
 use native.Mathlib.Omega.{arith}
 use borrow.Author.Needs.{needs}
@@ -35,14 +35,21 @@ returns-2 c =
 enum-told-2 : tie.Need-enum-told-2
 enum-told-2 c = search needs
 
-judge-list-requires : tie.Need-judge-list-requires
-judge-list-requires c κs = search needs
+judge-counted-requires : tie.Need-judge-counted-requires
+judge-counted-requires c κs =
+    let fits = held-shaped _ (sym (c .before .before .before .before .before .held-shape .ensures) ∙ c .before .before .before .enum-told .given .1) in
+    let small = fits .list .small in
+    let within = fits .list .within in (
+      omega (arith, small, within),
+      omega (arith, within, fits .list .keys),
+      omega (arith, within, fits .list .multiplicities),
+    )
 
 returns-3 : tie.Need-returns-3
 unfolding sectionList
 returns-3 c =
     let shape = sym (c .before .before .before .before .before .before .held-shape .ensures) ∙ c .before .before .before .before .enum-told .given .1 in
-    c .judge-list .ensures
+    c .judge-counted .ensures
     ∙ sym (judged-held-list _ shape (sym (c .before .before .before .open-hold .ensures _ _ _) ∙ c .before .enum-told2 .given .1))
 
 pub judge-held-spec : {M : Type 1} → statement M
@@ -57,5 +64,5 @@ judge-held-spec =
     enum-known-reason-2
     returns-2
     enum-told-2
-    judge-list-requires
+    judge-counted-requires
     returns-3)

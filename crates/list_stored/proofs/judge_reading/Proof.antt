@@ -2,7 +2,7 @@
 use mathlib.Core.Path.{sym, _∙_}
 use native.Mathlib.Omega.{arith}
 use borrow.Author.Needs.{needs}
-use Rattle.list_stored.proofs.Reasons.{whole, whole-room, read-shape, read-torn, read-full, read-content}
+use Rattle.list_stored.proofs.Reasons.{whole, whole-room, read-shape, read-torn, read-full, read-used, read-content}
 use Rattle.list_stored.proofs.judge_reading.Statement.{statement}
 use Rattle.list_stored.proofs.judge_reading.Tie as tie
 
@@ -49,25 +49,34 @@ returns-3 c =
     (read-full _ _ (sym (held-shape .ensures) ∙ enum-told .given .1) (sym (torn .ensures) ∙ enum-told2 .given .1)
     (let e = c .before .before .stored-n .ensures in let h = c .if1 .taken in omega arith))
 
-judge-content-requires : tie.Need-judge-content-requires
-judge-content-requires c κs =
-    let torn = c .before .before .before .before .before .torn in
-    let enum-told2 = c .before .before .before .enum-told2 in
-    let w = whole _ (sym (torn .ensures) ∙ enum-told2 .given .1) in
-    let e = c .before .before .stored-n .ensures in
-    (e, omega arith, whole-room _ _ e w)
-
 returns-4 : tie.Need-returns-4
 returns-4 c =
-    let held-shape = c .before .before .before .before .before .before .before .before .before .held-shape in
-    let enum-told = c .before .before .before .before .before .before .before .enum-told in
-    let torn = c .before .before .before .before .before .before .torn in
-    let enum-told2 = c .before .before .before .before .enum-told2 in
-    let stored-n = c .before .before .before .stored-n in
+    let held-shape = c .before .before .before .before .before .before .before .before .before .before .held-shape in
+    let enum-told = c .before .before .before .before .before .before .before .before .enum-told in
+    let torn = c .before .before .before .before .before .before .before .torn in
+    let enum-told2 = c .before .before .before .before .before .enum-told2 in
+    sym
+    (read-used _ _ (sym (held-shape .ensures) ∙ enum-told .given .1) (sym (torn .ensures) ∙ enum-told2 .given .1) (c .if2 .taken))
+
+judge-content-requires : tie.Need-judge-content-requires
+judge-content-requires c κs =
+    let torn = c .before .before .before .before .before .before .before .torn in
+    let enum-told2 = c .before .before .before .before .before .enum-told2 in
+    let w = whole _ (sym (torn .ensures) ∙ enum-told2 .given .1) in
+    let e = c .before .before .before .before .stored-n .ensures in
+    (e, omega arith, whole-room _ _ e w)
+
+returns-5 : tie.Need-returns-5
+returns-5 c =
+    let held-shape = c .before .before .before .before .before .before .before .before .before .before .before .held-shape in
+    let enum-told = c .before .before .before .before .before .before .before .before .before .enum-told in
+    let torn = c .before .before .before .before .before .before .before .before .torn in
+    let enum-told2 = c .before .before .before .before .before .before .enum-told2 in
+    let stored-n = c .before .before .before .before .before .stored-n in
     c .judge-content .ensures
     ∙ sym
     (read-content _ _ (sym (held-shape .ensures) ∙ enum-told .given .1) (sym (torn .ensures) ∙ enum-told2 .given .1)
-    (let e = stored-n .ensures in let h = c .before .if1 .left in omega arith))
+    (let e = stored-n .ensures in let h = c .before .before .before .if1 .left in omega arith) (let u = c .before .if2 .left in omega arith))
 
 pub judge-reading-spec : {M : Type 1} → statement M
 judge-reading-spec =
@@ -83,5 +92,6 @@ judge-reading-spec =
     enum-told-2
     stored-n-requires
     returns-3
+    returns-4
     judge-content-requires
-    returns-4)
+    returns-5)

@@ -1,11 +1,13 @@
--- `list_stored::write_list` meets its contract: each return is the reason whose turn it is, and no byte is stored before all are
--- asked. Assumes nothing.
-use mathlib.Core.Path.{sym, _∙_}
+-- `list_stored::write_list` meets its contract: where `judge_held` gives a reason it is the answer; else the parts of the two arrays that are lent on
+-- are the list that is stored, so `store` does what is due for it. Assumes nothing.
+use mathlib.Core.Path.{refl, sym, ap, _∙_}
 use native.Mathlib.Omega.{arith}
 use borrow.Author.Needs.{needs}
+use Rattle.list.specs.Heights.{listHeight}
 use Rattle.list.specs.Holds.{sectionList}
-use Rattle.list.proofs.HeldLists.{held-shaped, held-told, held-height, held-refused}
-use Rattle.list_stored.proofs.Reasons.{write-judged, write-repeat, write-short, write-fine, written-refused, written-done}
+use Rattle.list.proofs.HeldLists.{held-height, held-refused}
+use Rattle.list.proofs.CountedStores.{lent-few, counted-lent, lent-keys, lent-counts}
+use Rattle.list_stored.proofs.Reasons.{height-shaped, height-few, write-refused, write-stores}
 use Rattle.list_stored.proofs.write_list.Statement.{statement}
 use Rattle.list_stored.proofs.write_list.Tie as tie
 
@@ -18,63 +20,77 @@ enum-known-reason c = search needs
 enum-known-height : tie.Need-enum-known-height
 enum-known-height c = search needs
 
-has-repeats-requires : tie.Need-has-repeats-requires
-has-repeats-requires c κs =
-    let judge-held = c .before .before .before .judge-held in
-    let w = held-shaped _ (held-told _ (held-height _ _ (sym (c .before .height .given .1) ∙ judge-held .ensures) .0) .0) in search needs
+slice-aggregate-counted : tie.Need-slice-aggregate-counted
+slice-aggregate-counted c = search needs
+
+slice-aggregate-counted-2 : tie.Need-slice-aggregate-counted-2
+slice-aggregate-counted-2 c = search needs
+
+counted-requires : tie.Need-counted-requires
+counted-requires c κs =
+    let s = height-shaped _ _ (sym (c .before .before .before .height .given .1) ∙ c .before .before .before .before .before .judge-held .ensures) .list in
+    let small = s .small in
+    let within = s .within in
+    let keys = s .keys in
+    let multiplicities = s .multiplicities in
+    search needs
+
+mul-end : tie.Need-mul-end
+mul-end c =
+    let few = height-few _ _ (sym (c .before .before .before .before .before .before .height .given .1) ∙ c .before .before .before .before .before .before .before .before .judge-held .ensures) in
+    let fewer = lent-few _ (c .before .before .counted .ensures .0) in
+    search needs
+
+array-share-prefix-to-keys : tie.Need-array-share-prefix-to-keys
+array-share-prefix-to-keys c =
+    let few = height-few _ _ (sym (c .before .before .before .before .before .before .height .given .1) ∙ c .before .before .before .before .before .before .before .before .judge-held .ensures) in
+    let fewer = lent-few _ (c .before .before .counted .ensures .0) in
+    search needs
+
+slice-aggregate-store : tie.Need-slice-aggregate-store
+slice-aggregate-store c =
+    let counted = c .before .before .before .counted in
+    lent-keys _ (counted .ensures .0) _ (counted .ensures .1 .0) refl (height-few _ _ (sym (c .before .before .before .before .before .before .before .height .given .1) ∙ c .before .before .before .before .before .before .before .before .before .judge-held .ensures))
+
+array-share-prefix-to-multiplicities : tie.Need-array-share-prefix-to-multiplicities
+array-share-prefix-to-multiplicities c =
+    let few = height-few _ _ (sym (c .before .before .before .before .before .before .before .height .given .1) ∙ c .before .before .before .before .before .before .before .before .before .judge-held .ensures) in
+    let fewer = lent-few _ (c .before .before .before .counted .ensures .0) in
+    search needs
+
+slice-aggregate-store-2 : tie.Need-slice-aggregate-store-2
+slice-aggregate-store-2 c =
+    let counted = c .before .before .before .before .counted in
+    lent-counts _ (counted .ensures .0) _ (counted .ensures .1 .1) refl (height-few _ _ (sym (c .before .before .before .before .before .before .before .before .height .given .1) ∙ c .before .before .before .before .before .before .before .before .before .before .judge-held .ensures))
+
+store-requires : tie.Need-store-requires
+unfolding sectionList
+store-requires c κs =
+    let counted = c .before .before .before .before .before .counted in
+    let answer = (sym (c .before .before .before .before .before .before .before .before .before .height .given .1) ∙ c .before .before .before .before .before .before .before .before .before .before .before .judge-held .ensures) in
+    let few = height-few _ _ answer in
+    let fewer = lent-few _ (counted .ensures .0) in
+    let keys = lent-keys _ (counted .ensures .0) _ (counted .ensures .1 .0) refl few in
+    let counts = lent-counts _ (counted .ensures .0) _ (counted .ensures .1 .1) refl few in (
+      (omega arith, omega arith, omega arith),
+      held-height _ _ answer .1
+          ∙ ap listHeight (sym (counted-lent _ (counted .ensures .0) _ _ (counted .ensures .1 .0) (counted .ensures .1 .1) refl refl few)),
+    )
 
 returns : tie.Need-returns
-unfolding sectionList
-returns c =
-    let judge-held = c .before .before .before .before .before .judge-held in
-    let height = c .before .before .before .height in
-    written-refused _ _
-    (write-repeat _ _ (held-height _ _ (sym (height .given .1) ∙ judge-held .ensures) .0) (sym (c .before .has-repeats .ensures _ _) ∙ c .if1 .taken))
-
-stored-length-requires : tie.Need-stored-length-requires
-stored-length-requires c κs =
-    let judge-held = c .before .before .before .before .before .judge-held in
-    let height = c .before .before .before .height in
-    let w = held-shaped _ (held-told _ (held-height _ _ (sym (height .given .1) ∙ judge-held .ensures) .0) .0) in search needs
-
-returns-2 : tie.Need-returns-2
-unfolding sectionList
-returns-2 c =
-    let judge-held = c .before .before .before .before .before .before .before .judge-held in
-    let height = c .before .before .before .before .before .height in
-    let has-repeats = c .before .before .before .has-repeats in
-    written-refused _ _
-    (write-short _ _ (held-height _ _ (sym (height .given .1) ∙ judge-held .ensures) .0) (sym (has-repeats .ensures _ _) ∙ c .before .before .if1 .left)
-    (let e = c .before .stored-length .ensures in let h = c .if2 .taken in omega arith))
-
-put-list-requires : tie.Need-put-list-requires
-put-list-requires c κs =
-    let judge-held = c .before .before .before .before .before .before .before .before .judge-held in
-    let height = c .before .before .before .before .before .before .height in
-    let w = held-shaped _ (held-told _ (held-height _ _ (sym (height .given .1) ∙ judge-held .ensures) .0) .0) in search needs
-
-returns-3 : tie.Need-returns-3
-returns-3 c =
-    let judge-held = c .before .before .before .judge-held in
-    written-refused _ _ (write-judged _ _ (held-refused _ _ (sym (c .before .reason .given .1) ∙ judge-held .ensures)))
+returns c = write-refused _ _ (held-refused _ _ (sym (c .before .reason .given .1) ∙ c .before .before .before .judge-held .ensures))
 
 same-length : tie.Need-same-length
 same-length c = search needs
 
-returns-4 : tie.Need-returns-4
+returns-2 : tie.Need-returns-2
 unfolding sectionList
-returns-4 c =
-    let judge-held = c .before .before .before .before .before .before .before .before .before .before .before .judge-held in
-    let height = c .before .before .before .before .before .before .before .before .before .height in
-    let has-repeats = c .before .before .before .before .before .before .before .has-repeats in
-    let stored-length = c .before .before .before .before .before .stored-length in
-    let if1 = c .before .before .before .before .before .before .if1 in
-    let if2 = c .before .before .before .before .if2 in
-    let j = held-height _ _ (sym (height .given .1) ∙ judge-held .ensures) in
-    written-done _ _ _ _ _
-    (write-fine _ _ (j .0) (sym (has-repeats .ensures _ _) ∙ if1 .left) (let e = stored-length .ensures in let h = if2 .left in omega arith))
-    (stored-length .ensures)
-    (j .1) (c .before .before .put-list .ensures)
+returns-2 c =
+    let counted = c .before .before .before .before .before .before .before .before .counted in
+    let answer = (sym (c .before .before .before .before .before .before .before .before .before .before .before .before .height .given .1) ∙ c .before .before .before .before .before .before .before .before .before .before .before .before .before .before .judge-held .ensures) in
+    write-stores _ _ (held-height _ _ answer .0) _
+    (counted-lent _ (counted .ensures .0) _ _ (counted .ensures .1 .0) (counted .ensures .1 .1) refl refl (height-few _ _ answer))
+    (c .before .before .store .ensures)
 
 pub write-list-spec : {M : Type 1} → statement M
 write-list-spec =
@@ -83,11 +99,15 @@ write-list-spec =
     judge-held-requires
     enum-known-reason
     enum-known-height
-    has-repeats-requires
+    slice-aggregate-counted
+    slice-aggregate-counted-2
+    counted-requires
+    mul-end
+    array-share-prefix-to-keys
+    slice-aggregate-store
+    array-share-prefix-to-multiplicities
+    slice-aggregate-store-2
+    store-requires
     returns
-    stored-length-requires
-    returns-2
-    put-list-requires
-    returns-3
     same-length
-    returns-4)
+    returns-2)

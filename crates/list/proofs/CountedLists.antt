@@ -1,7 +1,8 @@
--- The list of the counted places of a list. It has the right shape where that has (counted-shaped); its places are used places with a count (counted-each), with
--- their keys and counts (counted-key, counted-entry, counted-count), so it is admitted where the list is (counted-admitted). What goes along the counted places
--- goes along all places, those without count left out (counted-fold); so its height is the sum over the used places of the rows of the counted keys
--- (counted-height). Assumes nothing.
+-- The list of the counted places of a list (specs/Counted.antt). It has the right shape where that has (counted-shaped); its places are used places with a
+-- count (counted-each), with their keys and counts (counted-key, counted-entry, counted-count), so it is admitted where the list is (counted-admitted,
+-- fine-counted). What goes along the counted places goes along all places, those without count left out (counted-fold). Its entries are those at the counted
+-- places (counted-entries, counted-height). Where no multiplicity is 0 every used place is counted (counted-to-all, all-entries, ..), so counting twice is
+-- counting once (counted-counted). Assumes nothing.
 use Prim.Native.Nat.{ℕ, zero, suc, _+_, _*_, _≤_, _<_}
 use mathlib.Core.Path.{_≡_, refl, sym, ap, ap₂, _∙_}
 use mathlib.Core.Bool.{Bool, true, false, cond}
@@ -17,15 +18,29 @@ use borrow.Author.Tests.{eqb-true, eqb-false, eq-eqb, ne-eqb}
 use Rattle.words.specs.Limits.{multiplicityLimit}
 use Rattle.words.specs.Places.{placesFrom, places}
 use Rattle.words.specs.declared.Judgement.the-variants.{Fine}
+use Rattle.words.proofs.Places.{places-more, length-places}
 use Rattle.isa.specs.declared.U32TableEntry.{U32TableEntry}
-use Rattle.isa.specs.Entries.{entryWords, entryWidth, judgeEntry, admitted, height}
+use Rattle.isa.specs.Entries.{entryWords, entryWidth, judgeEntry, admitted}
 use Rattle.list.specs.declared.Sizes.{Sizes}
-use Rattle.list.specs.Lists.{U32List, u32List, capacity, used, keyAt, multiplicityAt, entryAt}
+use Rattle.list.specs.Lists.{U32List, u32List, capacity, used, keyAt, multiplicityAt, entryAt, judgeList}
 use Rattle.list.specs.Heights.{sectionEntries, sumHeights, listHeight}
+use Rattle.list.specs.Counted.{countedTo, countedPlaces, counted}
 use Rattle.list.proofs.Places.{entry-at-key, section-entries-map}
-use Rattle.list.proofs.JudgedLists.{Shaped, ListAdmitted, sum-append}
-use Rattle.shared_law.specs.Counted.{countedTo, countedPlaces, counted}
-use Rattle.shared_law.proofs.Sums.{sumTo}
+use Rattle.list.proofs.JudgedLists.{Shaped, ListAdmitted, list-admitted, admitted-fine}
+
+-- one place more
+pub counted-none : (l : U32List) → countedTo l 0 ≡ []
+unfolding countedTo
+counted-none l = refl
+
+module _ (l : U32List) (n : ℕ) where
+  pub counted-more : multiplicityAt l n ≢ 0 → countedTo l (suc n) ≡ countedTo l n ++ (n ∷ [])
+  unfolding countedTo
+  counted-more h = rw (ne-eqb (multiplicityAt l n) 0 h)
+
+  pub counted-same : multiplicityAt l n ≡ 0 → countedTo l (suc n) ≡ countedTo l n
+  unfolding countedTo
+  counted-same h = rw (eq-eqb (multiplicityAt l n) 0 h) (append-nil (countedTo l n))
 
 -- ---- the counted places
 
@@ -74,12 +89,12 @@ counted-fold {B} l F G step more none skip take (suc n) = go (counted-fold l F G
 
 -- ---- the words of some places in a row
 
-words-length : (f : ℕ → U32TableEntry) (is : List ℕ) → length (flatMap (λ i. entryWords (f i)) is) ≡ entryWidth * length is
+pub words-length : (f : ℕ → U32TableEntry) (is : List ℕ) → length (flatMap (λ i. entryWords (f i)) is) ≡ entryWidth * length is
 unfolding flatMap
 words-length f [] = refl
 words-length f (i ∷ is) = length-append (entryWords (f i)) (flatMap (λ j. entryWords (f j)) is) ∙ omega (arith, words-length f is)
 
-key-of-words : (f : ℕ → U32TableEntry) (is : List ℕ) (z : Sizes) (ms : List ℕ) (j : ℕ) → j < length is
+pub key-of-words : (f : ℕ → U32TableEntry) (is : List ℕ) (z : Sizes) (ms : List ℕ) (j : ℕ) → j < length is
     → keyAt (u32List z (flatMap (λ i. entryWords (f i)) is) ms) j ≡ f (getD is j 0)
 unfolding keyAt flatMap
 key-of-words f [] z ms j h = absurd (omega arith)
@@ -90,11 +105,11 @@ key-of-words f (i ∷ is) z ms (suc j) h =
     let c : 3 * suc j + 2 ≡ suc (suc (suc (3 * j + 2))) = omega arith in
     rw (b, c, a) (key-of-words f is z ms j (omega arith))
 
-map-length : (f : ℕ → ℕ) (is : List ℕ) → length (map f is) ≡ length is
+pub map-length : (f : ℕ → ℕ) (is : List ℕ) → length (map f is) ≡ length is
 map-length f [] = refl
 map-length f (i ∷ is) = ap suc (map-length f is)
 
-map-at : (f : ℕ → ℕ) (is : List ℕ) (j : ℕ) → j < length is → getD (map f is) j 0 ≡ f (getD is j 0)
+pub map-at : (f : ℕ → ℕ) (is : List ℕ) (j : ℕ) → j < length is → getD (map f is) j 0 ≡ f (getD is j 0)
 map-at f [] j h = absurd (omega arith)
 map-at f (i ∷ is) zero h = refl
 map-at f (i ∷ is) (suc j) h = map-at f is j (omega arith)
@@ -152,7 +167,7 @@ module _ (l : U32List) where
         rw (counted-count i b) (a .multiplicity (getD (countedPlaces l) i 0) (counted-each l (used l) i b .0));
   }
 
-  -- ---- its height
+  -- ---- its entries and its height
 
   pub counted-entries : sectionEntries (counted l) ≡ map (entryAt l) (countedPlaces l)
   counted-entries =
@@ -160,31 +175,102 @@ module _ (l : U32List) where
       ∙ ap (λ (n : ℕ). map (entryAt (counted l)) (places n)) counted-used
       ∙ places-map (entryAt (counted l)) (entryAt l) (countedPlaces l) 0 (λ j h. ap (entryAt (counted l)) (zero-add j) ∙ counted-entry j h)
 
--- the rows of a key, none where it is not counted
-abbrev pub rowsOf : ℕ → U32TableEntry → ℕ
-rowsOf count k = cond (eqb count 0) 0 (height k)
+  pub counted-height : listHeight (counted l) ≡ sumHeights (map (entryAt l) (countedPlaces l))
+  unfolding listHeight
+  counted-height = ap sumHeights counted-entries
 
-pub counted-height : (l : U32List) → listHeight (counted l) ≡ sumTo (λ i. rowsOf (multiplicityAt l i) (entryAt l i)) (used l)
-unfolding listHeight sumHeights sumTo
-counted-height l =
-    ap sumHeights (counted-entries l)
-    ∙ counted-fold l (λ is. sumHeights (map (entryAt l) is)) (λ n. sumTo (λ i. rowsOf (multiplicityAt l i) (entryAt l i)) n)
-    (λ b i. b + height (entryAt l i)) more refl skip take (used l)
-  where
-    more : (is : List ℕ) (i : ℕ) → sumHeights (map (entryAt l) (is ++ (i ∷ []))) ≡ sumHeights (map (entryAt l) is) + height (entryAt l i)
-    more is i =
-        ap sumHeights (map-join (entryAt l) is (i ∷ []))
-        ∙ sum-append (map (entryAt l) is) (entryAt l i ∷ [])
-        ∙ ap (λ (n : ℕ). sumHeights (map (entryAt l) is) + n) (add-zero (height (entryAt l i)))
+  pub counted-few : used (counted l) ≤ used l
+  counted-few = omega (arith, counted-used, counted-at-most l (used l))
 
-    skip : (n : ℕ) → multiplicityAt l n ≡ 0
-        → sumTo (λ i. rowsOf (multiplicityAt l i) (entryAt l i)) n + rowsOf (multiplicityAt l n) (entryAt l n)
-        ≡ sumTo (λ i. rowsOf (multiplicityAt l i) (entryAt l i)) n
-    skip n z =
-        let none : rowsOf (multiplicityAt l n) (entryAt l n) ≡ 0 = rw (eq-eqb (multiplicityAt l n) 0 z) in
-        omega arith
+  pub fine-counted : judgeList l ≡ Fine → judgeList (counted l) ≡ Fine
+  fine-counted e = admitted-fine (counted l) (counted-admitted (list-admitted l e))
 
-    take : (n : ℕ) → multiplicityAt l n ≢ 0
-        → sumTo (λ i. rowsOf (multiplicityAt l i) (entryAt l i)) n + rowsOf (multiplicityAt l n) (entryAt l n)
-        ≡ sumTo (λ i. rowsOf (multiplicityAt l i) (entryAt l i)) n + height (entryAt l n)
-    take n z = rw (ne-eqb (multiplicityAt l n) 0 z)
+  -- none of its multiplicities is 0
+  pub counted-not-zero : (j : ℕ) → j < used (counted l) → multiplicityAt (counted l) j ≢ 0
+  counted-not-zero j h e =
+      let b : j < length (countedPlaces l) = rw counted-used at h in
+      counted-each l (used l) j b .1 (sym (counted-count j b) ∙ e)
+
+-- ---- no multiplicity is 0: every used place is counted
+
+pub counted-to-all : (l : U32List) (n : ℕ) → ((i : ℕ) → i < n → multiplicityAt l i ≢ 0) → countedTo l n ≡ places n
+unfolding placesFrom
+counted-to-all l zero f = counted-none l
+counted-to-all l (suc n) f =
+    counted-more l n (f n (omega arith)) ∙ ap (λ (ps : List ℕ). ps ++ (n ∷ [])) (counted-to-all l n (λ i h. f i (omega arith))) ∙ places-more n
+
+getD-places : (i n j : ℕ) → j < n → getD (placesFrom i n) j 0 ≡ i + j
+unfolding placesFrom
+getD-places i zero j h = absurd (omega arith)
+getD-places i (suc n) zero h = sym (add-zero i)
+getD-places i (suc n) (suc j) h = let d : suc i + j ≡ i + suc j = omega arith in getD-places (suc i) n j (omega arith) ∙ d
+
+module _ (l : U32List) (f : (i : ℕ) → i < used l → multiplicityAt l i ≢ 0) where
+  all-places : countedPlaces l ≡ places (used l)
+  all-places = counted-to-all l (used l) f
+
+  place-is : (j : ℕ) → j < used l → getD (countedPlaces l) j 0 ≡ j
+  place-is j h = ap (λ (ps : List ℕ). getD ps j 0) all-places ∙ getD-places 0 (used l) j h ∙ zero-add j
+
+  all-length : length (countedPlaces l) ≡ used l
+  all-length = ap (λ (ps : List ℕ). length ps) all-places ∙ length-places 0 (used l)
+
+  pub all-used : used (counted l) ≡ used l
+  all-used = counted-used l ∙ all-length
+
+  pub all-entry : (j : ℕ) → j < used l → entryAt (counted l) j ≡ entryAt l j
+  all-entry j h = counted-entry l j (omega (arith, all-length)) ∙ ap (entryAt l) (place-is j h)
+
+  pub all-count : (j : ℕ) → j < used l → multiplicityAt (counted l) j ≡ multiplicityAt l j
+  all-count j h = counted-count l j (omega (arith, all-length)) ∙ ap (multiplicityAt l) (place-is j h)
+
+  pub all-entries : sectionEntries (counted l) ≡ sectionEntries l
+  all-entries = counted-entries l ∙ ap (map (entryAt l)) all-places ∙ sym (section-entries-map l)
+
+  pub all-height : listHeight (counted l) ≡ listHeight l
+  unfolding listHeight
+  all-height = ap sumHeights all-entries
+
+-- ---- counting twice
+
+flat-of : (f : ℕ → U32TableEntry) (is : List ℕ) → flatMap (λ i. entryWords (f i)) is ≡ flatMap entryWords (map f is)
+unfolding flatMap
+flat-of f [] = refl
+flat-of f (i ∷ is) = ap (λ (ws : List ℕ). entryWords (f i) ++ ws) (flat-of f is)
+
+counted-is : (l : U32List)
+    → counted l
+    ≡ u32List (record { capacity = length (countedPlaces l); used = length (countedPlaces l) })
+    (flatMap (λ i. entryWords (keyAt l i)) (countedPlaces l))
+    (map (multiplicityAt l) (countedPlaces l))
+unfolding counted
+counted-is l = refl
+
+same-list : {m n : ℕ} {ks js ms ns : List ℕ} → m ≡ n → ks ≡ js → ms ≡ ns
+    → u32List (record { capacity = m; used = m }) ks ms ≡ u32List (record { capacity = n; used = n }) js ns
+same-list a b c = rw (a, b, c) refl
+
+module _ (l : U32List) where
+  again-places : countedPlaces (counted l) ≡ places (length (countedPlaces l))
+  again-places = counted-to-all (counted l) (used (counted l)) (counted-not-zero l) ∙ ap (λ (n : ℕ). places n) (counted-used l)
+
+  again-count : length (countedPlaces (counted l)) ≡ length (countedPlaces l)
+  again-count = ap (λ (ps : List ℕ). length ps) again-places ∙ length-places 0 (length (countedPlaces l))
+
+  again-keys : flatMap (λ i. entryWords (keyAt (counted l) i)) (countedPlaces (counted l)) ≡ flatMap (λ i. entryWords (keyAt l i)) (countedPlaces l)
+  again-keys =
+      flat-of (keyAt (counted l)) (countedPlaces (counted l))
+      ∙ ap (λ (ps : List ℕ). flatMap entryWords (map (keyAt (counted l)) ps)) again-places
+      ∙ ap (λ (es : List U32TableEntry). flatMap entryWords es)
+      (places-map (keyAt (counted l)) (keyAt l) (countedPlaces l) 0 (λ j h. ap (keyAt (counted l)) (zero-add j) ∙ counted-key l j h))
+      ∙ sym (flat-of (keyAt l) (countedPlaces l))
+
+  again-counts : map (multiplicityAt (counted l)) (countedPlaces (counted l)) ≡ map (multiplicityAt l) (countedPlaces l)
+  again-counts =
+      ap (λ (ps : List ℕ). map (multiplicityAt (counted l)) ps) again-places
+      ∙ places-map (multiplicityAt (counted l)) (multiplicityAt l) (countedPlaces l) 0
+      (λ j h. ap (multiplicityAt (counted l)) (zero-add j) ∙ counted-count l j h)
+
+  -- the list of the counted places leaves nothing out
+  pub counted-counted : counted (counted l) ≡ counted l
+  counted-counted = counted-is (counted l) ∙ same-list again-count again-keys again-counts ∙ sym (counted-is l)
