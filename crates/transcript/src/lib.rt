@@ -1,7 +1,7 @@
 // From the bytes that `u32list` reads to the text that it prints: the calls in a row, and their answers as lines.
 ghost use Prim.Native.Nat.{_+_, _*_, _≤_};
 ghost use mathlib.Core.Path.{_≡_};
-ghost use lib.ListN.{length};
+ghost use lib.ListN.{length, replicate};
 ghost use Rattle.words.specs.Outcomes.{Leaves};
 ghost use Rattle.words.specs.Refusals.{refusalNumber};
 ghost use Rattle.xfield.specs.XFieldElements.{extOf};
@@ -39,6 +39,20 @@ const MAX_PRINTED_ROWS: usize = 512;
 
 // No text is longer.
 pub const MAX_TEXT: usize = 107804;
+
+// Room for the most input and one byte more, by which a longer input is told: all 0.
+pub fn input_room() -> [u8; 51329]
+    ensures { λ r. ⌜ r ≡ replicate 51329 0 ⌝ }
+{
+    [0; 51329]
+}
+
+// Room for the longest text: all 0.
+pub fn room() -> [u8; 107804]
+    ensures { λ r. ⌜ r ≡ replicate 107804 0 ⌝ }
+{
+    [0; 107804]
+}
 
 // The length of the text, or why none was put.
 pub enum Transcribed {

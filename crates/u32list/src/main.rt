@@ -1,14 +1,12 @@
 // u32list: reads fifteen challenges and a stored list from standard input, and writes the padded table, the last sum and the check's answer.
 // `transcript` does all of it but the reading and the writing; where one of those fails, a line on standard error says so (`streams`).
 use streams::Filled;
-use transcript::MAX_INPUT;
-use transcript::MAX_TEXT;
 use transcript::Transcribed;
 
 // Reads standard input to its end, or to one byte more than is admitted, and writes the text.
 fn main() {
-    let mut input = [0u8; MAX_INPUT + 1];
-    let mut out = [0u8; MAX_TEXT];
+    let mut input = transcript::input_room();
+    let mut out = transcript::room();
     if let Filled::Bytes(n) = streams::read_full(&mut input) {
         if let Transcribed::Length(length) = transcript::transcript(&input[..n], &mut out) {
             streams::write_all(&out[..length]);

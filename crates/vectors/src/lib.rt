@@ -2,7 +2,7 @@
 // else between them.
 ghost use Prim.Native.Nat.{_≤_};
 ghost use mathlib.Core.Path.{_≡_};
-ghost use lib.ListN.{length, replicate};
+ghost use lib.ListN.{length};
 ghost use Rattle.vectors.specs.Same.{sameFirst};
 ghost use Rattle.vectors.specs.Counts.{counted, answered, tallied};
 use libc::STDIN_FILENO;
@@ -333,11 +333,4 @@ pub fn print_count(name: &[u8], n: u64) {
 
 pub fn print_text(text: &[u8]) {
     io::write_all(STDOUT_FILENO, text);
-}
-
-// An output of the least size that `transcript` takes: all 0.
-pub fn output() -> [u8; 107804]
-    ensures { λ r. ⌜ r ≡ replicate 107804 0 ⌝ }
-{
-    [0; 107804]
 }

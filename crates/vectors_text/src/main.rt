@@ -117,7 +117,7 @@ fn case_end(file: &[u8]) -> usize {
 
 // Runs the case at the file's start.
 fn run_case(file: &[u8], counts: &mut [u64; vectors::COUNTS]) {
-    let mut out = vectors::output();
+    let mut out = transcript::room();
     let size = vectors::number(file, 0);
     let length = vectors::number(file, size.next);
     let from = later(length.next, 1);

@@ -7,6 +7,12 @@ use borrow.Author.Needs.{needs}
 use Rattle.u32list.proofs.main.Statement.{statement}
 use Rattle.u32list.proofs.main.Tie as tie
 
+input-room-requires : tie.Need-input-room-requires
+input-room-requires c κs = search needs
+
+room-requires : tie.Need-room-requires
+room-requires c κs = search needs
+
 slice-aggregate-read-full : tie.Need-slice-aggregate-read-full
 slice-aggregate-read-full c = search needs
 
@@ -60,6 +66,8 @@ pub main-spec : {M : Type 1} → statement M
 main-spec =
     tie.close
     (tie.spec
+    input-room-requires
+    room-requires
     slice-aggregate-read-full
     read-full-requires
     enum-known-n
