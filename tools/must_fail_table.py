@@ -9,7 +9,7 @@ here keeps the fact that the page names already: for use after the edits of some
 
     tools/must_fail_table.py --check
 
-compares the stored page with the folders: each edit stands in it, under its crate, with its own comment and its mark, and no other does. The facts are taken from
+compares the stored page with the folders: each edit stands in it, under its crate, with its own comment and its mark, no other does, and none names a path of a machine. The facts are taken from
 the page: they are known only once the edits were tried.
 """
 import pathlib
@@ -92,6 +92,7 @@ def check():
     stored_lines, made_lines = (places(text) for text in (stored, made))
     wrong = [f"{where}, which is in the page but not in the folders: {line}" for where, line in sorted(stored_lines - made_lines)]
     wrong += [f"{where}, which is in the folders but not in the page: {line}" for where, line in sorted(made_lines - stored_lines)]
+    wrong += [f"{where}, a path of a machine: {line}" for where, line in sorted(stored_lines) if "`/" in line or "::target::" in line]
     return wrong or (["its head, its order or its count"] if stored != made else [])
 
 
@@ -119,7 +120,7 @@ def page(before, tried=True):
         out.append(f"## {crate}\n\n| edit | the wrong program | the fact that fails |\n|---|---|---|")
         for edit in edits:
             log = ROOT / "target" / edit.parent.name / crate / edit.stem / ".log"
-            error = first_error(log, f"must-fail/{crate}/{edit.stem}") if tried and log.is_file() else None
+            error = first_error(log, f"/{crate}/{edit.stem}") if tried and log.is_file() else None
             more = "" if edit.parent.name == "must-fail" else " +"
             if error is None and (crate, edit.stem) in before:
                 count += 1
