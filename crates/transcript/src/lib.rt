@@ -11,7 +11,7 @@ ghost use Rattle.table.specs.Columns.{mainWidth};
 ghost use Rattle.check_table.specs.Verdicts.{verdictAnswer};
 ghost use Rattle.text.specs.Lines.{refusedLine};
 ghost use Rattle.text.specs.Put.{Put};
-ghost use Rattle.transcript.specs.Transcript.{maxPrintedRows, challengeBytes, inputChallenges, rowLines, openingText, verdictText};
+ghost use Rattle.transcript.specs.Transcript.{maxPrintedRows, maxInput, challengeBytes, inputChallenges, rowLines, openingText, verdictText};
 ghost use Rattle.transcript.specs.Transcript.{checkedText, extendedText, paddedText, callsText, heightText, listText, readText};
 ghost use Rattle.transcript.specs.Transcript.{maxText, transcribeAll, transcribedAnswer, Fits, Printable};
 use check_table::Verdict;
@@ -41,17 +41,17 @@ const MAX_PRINTED_ROWS: usize = 512;
 pub const MAX_TEXT: usize = 107804;
 
 // Room for the most input and one byte more, by which a longer input is told: all 0.
-pub fn input_room() -> [u8; 51329]
-    ensures { λ r. ⌜ r ≡ replicate 51329 0 ⌝ }
+pub fn input_room() -> [u8; MAX_INPUT + 1]
+    ensures { λ r. ⌜ r ≡ replicate (maxInput + 1) 0 ⌝ }
 {
-    [0; 51329]
+    [0; MAX_INPUT + 1]
 }
 
 // Room for the longest text: all 0.
-pub fn room() -> [u8; 107804]
-    ensures { λ r. ⌜ r ≡ replicate 107804 0 ⌝ }
+pub fn room() -> [u8; MAX_TEXT]
+    ensures { λ r. ⌜ r ≡ replicate maxText 0 ⌝ }
 {
-    [0; 107804]
+    [0; MAX_TEXT]
 }
 
 // The length of the text, or why none was put.
