@@ -1,5 +1,7 @@
 // Columns side by side: a table and its sums as bytes, column by column, and back. What is wrong is refused with its reason, and then nothing lent
 // changes. Both ways the destination is written in order, and the source read where the next word stands.
+#![tactic(auto)]
+
 ghost use Rattle.std.specs.Prelude.{◌≡◌, ◌&&◌, ◌+◌, ◌*◌, ◌≤◌, ◌<◌, length};
 ghost use mathlib.Core.List.{map, flat_map};
 ghost use Rattle.std.proofs.lemmas.List.Edits.{sets};

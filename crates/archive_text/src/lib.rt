@@ -1,5 +1,7 @@
 // What `u32archive` does between reading and writing: from the text of a table to the archive, and from an archive to the text of its rows; or in
 // either case to a line for standard error.
+#![tactic(auto)]
+
 ghost use Rattle.std.specs.Prelude.{◌+◌, ◌*◌, ◌≤◌, false, ◌≡◌, length, replicate};
 ghost use Rattle.words.specs.Refusals.{refusal_number};
 ghost use Rattle.words.specs.declared.Judgement.{Judgement};
@@ -28,7 +30,7 @@ const HEAD: usize = 16;
 const COUNT_BYTES: usize = 8;
 
 // What the program is asked for.
-#[derive(Drop)]
+#[derive(Clone, Copy)]
 pub enum Task {
     Pack,
     Unpack,
@@ -36,7 +38,7 @@ pub enum Task {
 }
 
 // What is to be written.
-#[derive(Drop)]
+#[derive(Clone, Copy)]
 pub enum Packed {
     // An archive of so many bytes, to standard output.
     Archive(usize),
@@ -44,7 +46,7 @@ pub enum Packed {
     Line(usize),
 }
 
-#[derive(Drop)]
+#[derive(Clone, Copy)]
 pub enum Unpacked {
     // So many rows are to be printed, to standard output.
     Rows(usize),

@@ -1,5 +1,7 @@
 // The laws of the archive, as calls one after the other: what was archived comes back, an accepted archive is archived again to its own bytes, and
 // the check answers alike on a table and on the rows that came back. Where a call refuses, the next is not made.
+#![tactic(auto)]
+
 ghost use Rattle.archive.specs.Archives.{table_and_aux};
 ghost use Rattle.archive_trips.specs.ArchiveTrips.{IsArchivedThenRestored, IsRestoredThenArchived, IsCheckedRestored};
 

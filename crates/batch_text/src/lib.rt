@@ -1,4 +1,6 @@
 // The text of settings and of jobs' heights, read byte by byte as it comes, in parts of any sizes; and the table of what each setting gives.
+#![tactic(auto)]
+
 ghost use Rattle.std.specs.Prelude.{◌+◌, ◌≤◌, ◌≡◌, length, take, drop};
 ghost use Rattle.text.specs.Put.{Put};
 ghost use Rattle.batches.specs.Batches.{trial_all};
@@ -19,14 +21,14 @@ pub const MAX_JOBS: usize = 65536;
 const WIDTH: usize = 11;
 
 // How far a text has been read: so many settings and so many jobs.
-#[derive(Drop)]
+#[derive(Clone, Copy)]
 pub struct Reader {
     pub place: Place,
     pub settings: usize,
     pub jobs: usize,
 }
 
-#[derive(Drop)]
+#[derive(Clone, Copy)]
 pub enum Stage {
     Reading(Reader),
     // No such text goes on so: the line.

@@ -1,4 +1,6 @@
 // Jobs, each so many rows, are gathered in order into batches of at most a number of rows, the setting.
+#![tactic(auto)]
+
 ghost use Rattle.std.specs.Prelude.{◌≡◌, false, ◌+◌, ◌*◌, ◌-◌, ◌≤◌, length};
 ghost use mathlib.Core.List.{[], ◌∷◌, flat_map};
 ghost use Rattle.std.proofs.lemmas.List.Edits.{sets};
@@ -16,14 +18,14 @@ use words::{MAX_JOBS, MAX_ROWS, Refusal};
 pub const BATCH_WIDTH: usize = 3;
 
 // What a setting gives: the number of batches, all their rows, and what they lack to their padded heights; or why it is declined.
-#[derive(Drop)]
+#[derive(Clone, Copy)]
 pub enum Trial {
     Totals { count: u64, rows: u64, padding: u64 },
     Refused(Refusal),
 }
 
 // The number of batches and the padding, or why they are declined.
-#[derive(Drop)]
+#[derive(Clone, Copy)]
 pub enum Batched {
     Batches { count: u64, padding: u64 },
     Refused(Refusal),

@@ -1,4 +1,6 @@
 // The calls `archive` and `restore` as the C functions make them: the number of the documents is returned, and there are no further answers.
+#![tactic(auto)]
+
 ghost use Rattle.std.specs.Prelude.{◌≡◌};
 ghost use Rattle.archive.specs.Archives.{archive_all, restore_all};
 

@@ -1,4 +1,6 @@
 // The call `batches` as the C function makes it: the number of the documents is returned, and further answers go into `answers`.
+#![tactic(auto)]
+
 ghost use Rattle.std.specs.Prelude.{◌≡◌};
 ghost use Rattle.batches.specs.Batches.{batch_all};
 ghost use Rattle.c_answers.specs.Exports.{lent_due, Exported};

@@ -1,5 +1,7 @@
 // The calls on lists and entries as the C functions make them: sizes are numbers, the number of document 01 is returned, and further answers go
 // into `answers`.
+#![tactic(auto)]
+
 ghost use Rattle.std.specs.Prelude.{◌≡◌};
 ghost use Rattle.isa.specs.Entries.{entry};
 ghost use Rattle.list_shared.specs.Lent.{counts};

@@ -1,5 +1,7 @@
 // The calls on the lookup tables as the C functions make them: sizes are numbers, the number of the refusal is returned, and further answers go
 // into `answers`.
+#![tactic(auto)]
+
 ghost use Rattle.std.specs.Prelude.{◌≡◌};
 ghost use Rattle.lookup.specs.Cascades.{look_up_all};
 ghost use Rattle.lookup_sums.specs.LookupSums.{byte_sum_all, cascade_sum_all};

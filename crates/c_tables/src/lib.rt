@@ -1,5 +1,7 @@
 // The calls on tables as the C functions make them: sizes are numbers, the number of document 01 is returned, and further answers go into
 // `answers`.
+#![tactic(auto)]
+
 ghost use Rattle.std.specs.Prelude.{◌≡◌};
 ghost use Rattle.fill.specs.Padding.{pad_all};
 ghost use Rattle.c_answers.specs.Exports.{lent_list};

@@ -33,6 +33,8 @@
 //   21 if_copy_flag_next_is_1_then_running_sum_log_derivative_accumulates_next_row
 // The polynomials decide where a name says another thing (docs/DIFFERENCES.md): 9 asks for Result 1 and 10 for Result 0; 3 and 4 ask the upper
 // row's LHS and RHS.
+#![tactic(auto)]
+
 ghost use Rattle.std.specs.Prelude.{◌≡◌, map};
 ghost use Rattle.xfield.specs.XFieldElements.{ext_of};
 ghost use Rattle.air.specs.Constraints.{transition_constraints};
@@ -50,7 +52,7 @@ use xfield::XFieldElement;
 pub const TRANSITION_COUNT: usize = 22;
 
 // The bits that leave LHS and RHS, their product, and 1 where they are equal, else 0.
-#[derive(Drop)]
+#[derive(Clone, Copy)]
 struct LeastBits {
     lhs: BFieldElement,
     rhs: BFieldElement,
@@ -81,7 +83,7 @@ fn least_bits(
 }
 
 // Constraints 0 to 4, and what others share with them.
-#[derive(Drop)]
+#[derive(Clone, Copy)]
 struct GeneralTransition {
     next_minus_1: BFieldElement,
     ci_is_pow: BFieldElement,
@@ -110,7 +112,7 @@ fn general_transition(upper: MainRow, lower: MainRow) -> GeneralTransition
 }
 
 // Constraints 5 and 6.
-#[derive(Drop)]
+#[derive(Clone, Copy)]
 struct BitTransition {
     lhs_lsb_is_a_bit: BFieldElement,
     rhs_lsb_is_a_bit: BFieldElement,
@@ -136,7 +138,7 @@ fn bit_transition(
 }
 
 // Constraints 7 and 8: lt, decided in the lower row.
-#[derive(Drop)]
+#[derive(Clone, Copy)]
 struct DecidedLtTransition {
     result_is_0: BFieldElement,
     result_is_1: BFieldElement,
@@ -163,7 +165,7 @@ fn decided_lt_transition(
 }
 
 // Constraints 9 to 12: lt, not decided in the lower row.
-#[derive(Drop)]
+#[derive(Clone, Copy)]
 struct UndecidedLtTransition {
     bits_0_and_1: BFieldElement,
     bits_1_and_0: BFieldElement,
@@ -199,7 +201,7 @@ fn undecided_lt_transition(
 }
 
 // Constraints 13 to 15: and, log_2_floor.
-#[derive(Drop)]
+#[derive(Clone, Copy)]
 struct AndLog2FloorTransition {
     and_updates: BFieldElement,
     log_2_floor_is_set: BFieldElement,
@@ -230,7 +232,7 @@ fn and_log_2_floor_transition(
 }
 
 // Constraints 16 to 19: pow, pop_count.
-#[derive(Drop)]
+#[derive(Clone, Copy)]
 struct PowPopCountTransition {
     pow_lhs_unchanged: BFieldElement,
     pow_squares: BFieldElement,
@@ -261,7 +263,7 @@ fn pow_pop_count_transition(
 }
 
 // Constraints 0 to 19: those of main columns alone.
-#[derive(Drop)]
+#[derive(Clone, Copy)]
 struct BaseTransition {
     general: GeneralTransition,
     bit: BitTransition,
@@ -311,7 +313,7 @@ fn base_transition(upper: MainRow, lower: MainRow) -> BaseTransition
 }
 
 // Constraints 20 and 21.
-#[derive(Drop)]
+#[derive(Clone, Copy)]
 struct RunningSumTransition {
     stays: XFieldElement,
     accumulates: XFieldElement,

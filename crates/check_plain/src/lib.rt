@@ -1,5 +1,7 @@
 // Tests that a row, or a row and the row below it, meets every constraint, by a few comparisons in place of the polynomials. A test that
 // says yes is right. One that says no says nothing: there the polynomials decide.
+#![tactic(auto)]
+
 ghost use Rattle.std.specs.Prelude.{◌≡◌, true, ◌⊎◌, ◌+◌};
 ghost use Rattle.xfield.specs.Extension.{zero_x};
 ghost use Rattle.xfield.specs.XFieldElements.{ext_of};

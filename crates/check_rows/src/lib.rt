@@ -26,6 +26,8 @@
 // `terminal_constraints`
 //    0 lhs_is_0_or_ci_is_pow
 //    1 rhs_is_0
+#![tactic(auto)]
+
 ghost use Rattle.std.specs.Prelude.{◌≡◌, map};
 ghost use Rattle.xfield.specs.Extension.{sub_x, mul_x, scale_x};
 ghost use Rattle.xfield.specs.XFieldElements.{ext_of};
@@ -46,7 +48,7 @@ pub const CONSISTENCY_COUNT: usize = 15;
 pub const TERMINAL_COUNT: usize = 2;
 
 // The instruction deselectors of a CI. No constraint asks for split's.
-#[derive(Drop)]
+#[derive(Clone, Copy)]
 pub struct Deselectors {
     pub lt: BFieldElement,
     pub and: BFieldElement,
@@ -147,7 +149,7 @@ pub fn initial_constraints(
 
 // ---- consistency
 // Constraints 0, 1, 2 and 14.
-#[derive(Drop)]
+#[derive(Clone, Copy)]
 struct FlagConsistency {
     copy_flag_minus_1: BFieldElement,
     copy_flag_is_bit: BFieldElement,
@@ -174,7 +176,7 @@ fn flag_consistency(row: MainRow) -> FlagConsistency
 }
 
 // Constraints 3 and 4 of LHS, 5 and 6 of RHS.
-#[derive(Drop)]
+#[derive(Clone, Copy)]
 struct InverseConsistency {
     one_minus_product: BFieldElement,
     inv_is_0_or_the_inverse: BFieldElement,
@@ -193,7 +195,7 @@ fn inverse_consistency(value: BFieldElement, inverse: BFieldElement) -> InverseC
 }
 
 // Constraints 7 to 13: the Results of end rows.
-#[derive(Drop)]
+#[derive(Clone, Copy)]
 struct ResultConsistency {
     for_lt_with_copy_flag_0: BFieldElement,
     for_lt_with_copy_flag_1: BFieldElement,

@@ -1,5 +1,7 @@
 // The searches of the four groups of constraints, each for the first value that is not zero. Their contracts say what is found before
 // any answer `next` that another search would give.
+#![tactic(auto)]
+
 ghost use Rattle.std.specs.Prelude.{◌≡◌, ◌*◌, ◌-◌, ◌≤◌, ◌<◌, length};
 ghost use Rattle.words.specs.Answers.{Answer};
 ghost use Rattle.table.specs.Columns.{aux_width, row_count};
@@ -13,7 +15,7 @@ use table::{AuxRow, Challenges, MainRow};
 use xfield::XFieldElement;
 
 // What a search finds.
-#[derive(Drop)]
+#[derive(Clone, Copy)]
 pub enum Found {
     Nothing,
     // Group 0 to 3, (upper) row, index from 0, and the value there.

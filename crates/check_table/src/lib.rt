@@ -1,4 +1,6 @@
 // The check of a table: the first constraint that is not zero.
+#![tactic(auto)]
+
 ghost use Rattle.std.specs.Prelude.{◌≡◌, ◌*◌, ◌≤◌, ◌<◌, length};
 ghost use Rattle.words.specs.Answers.{Answer};
 ghost use Rattle.table.specs.Columns.{aux_width, row_count};
@@ -14,7 +16,7 @@ use words::{Judgement, Refusal};
 use xfield::XFieldElement;
 
 // What the check answers.
-#[derive(Drop)]
+#[derive(Clone, Copy)]
 pub enum Verdict {
     Zero,
     // Group 0 to 3, (upper) row, index from 0, and the value there.

@@ -1,4 +1,6 @@
 // The client's sum: the processor's end of the lookup. Each request adds the inverse of its denominator; its Result is the plain function's.
+#![tactic(auto)]
+
 ghost use Rattle.std.specs.Prelude.{◌≡◌, ◌+◌, ◌*◌, ◌≤◌, length};
 ghost use Rattle.xfield.specs.XFieldElements.{ext_of};
 ghost use Rattle.isa.specs.Entries.{entry_width};
@@ -12,7 +14,7 @@ use words::Refusal;
 use xfield::XFieldElement;
 
 // The sum over the requests, or why the call is declined.
-#[derive(Drop)]
+#[derive(Clone, Copy)]
 pub enum Terminal {
     Sum(XFieldElement),
     Refused(Refusal),

@@ -1,5 +1,7 @@
 // Extension: the sum over a table's CopyFlag 1 rows, so far at each row, stored in the aux words. All is judged before the first aux word is
 // written.
+#![tactic(auto)]
+
 ghost use Rattle.std.specs.Prelude.{◌≡◌, true, ◌+◌, ◌*◌, ◌≤◌, length};
 ghost use Rattle.std.proofs.lemmas.List.Edits.{sets};
 ghost use Rattle.words.specs.Outcomes.{Leaves};
@@ -20,7 +22,7 @@ use words::{Judgement, Refusal};
 use xfield::XFieldElement;
 
 // The sum over the CopyFlag 1 rows, or why the call is declined.
-#[derive(Drop)]
+#[derive(Clone, Copy)]
 pub enum Extended {
     Sum(XFieldElement),
     Refused(Refusal),

@@ -1,5 +1,7 @@
 // Base elements: numbers modulo p = 2^64 - 2^32 + 1. Every operation takes any 64-bit content and answers below p; its contract is one
 // equation, to its definition in specs/Elements.antt. The two that are handed a table or an inverse require that it is the right one.
+#![tactic(auto)]
+
 ghost use Rattle.std.specs.Prelude.{◌≡◌, ◌+◌, ◌*◌, ◌/◌, ◌%◌, ◌^◌};
 ghost use Rattle.field.specs.Elements.{p, add_f, sub_f, neg_f, mul_f, pow_f, inv_f, is_zero_f, equal_f};
 ghost use Rattle.field.specs.SmallInverses.{small_inverses};
@@ -267,7 +269,7 @@ const SMALL_INVERSES: [u64; 256] = [
 ];
 
 // A number of 128 bits: its upper and its lower 64.
-#[derive(Drop)]
+#[derive(Clone, Copy)]
 struct Wide(u64, u64);
 
 // The upper 64 bits of u * v, by halves of 32 bits. `high` and `low` share no intermediate value: so the compiler makes one
@@ -304,7 +306,7 @@ fn wide_mul(u: u64, v: u64) -> Wide
 }
 
 // A base element: its content, any number of 64 bits, stands for that number modulo P.
-#[derive(Drop)]
+#[derive(Clone, Copy)]
 pub struct BFieldElement(pub u64);
 
 impl BFieldElement {

@@ -1,4 +1,6 @@
 // Filling and padding the U32 table.
+#![tactic(auto)]
+
 ghost use Rattle.std.specs.Prelude.{◌≡◌, ◌*◌, ◌≤◌, length};
 ghost use Rattle.words.specs.Limits.{max_places};
 ghost use Rattle.words.specs.Outcomes.{Leaves, completed_answer};
@@ -21,7 +23,7 @@ use table::MainRow;
 use words::{Completed, MAX_PLACES, Refusal};
 
 // What `fill` answers: the height, or why it declines.
-#[derive(Drop)]
+#[derive(Clone, Copy)]
 pub enum Filled {
     Rows(u64),
     Refused(Refusal),

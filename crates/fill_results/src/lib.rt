@@ -1,4 +1,6 @@
 // The Result column of a section: where a section ends, the Result that ends it, and how a Result is carried up from the row below.
+#![tactic(auto)]
+
 ghost use Rattle.std.specs.Prelude.{◌≡◌};
 ghost use Rattle.fill_results.specs.Results.{is_end, carry_lt, carry_log2_floor, carry_and, carry_pow, carry_pop_count};
 ghost use Rattle.fill_results.specs.Results.{ending as ending_of, carry as carry_of};
@@ -6,7 +8,7 @@ ghost use Rattle.fill_results.specs.Results.{ending as ending_of, carry as carry
 use field::BFieldElement;
 
 // A Result, or that the opcode is none of the six.
-#[derive(Drop)]
+#[derive(Clone, Copy)]
 pub enum Choice {
     Value(u64),
     Unknown,

@@ -1,4 +1,6 @@
 // Filling the section of one entry. A row's Result is known only after the row below it, so the section's end is reached first.
+#![tactic(auto)]
+
 ghost use Rattle.std.specs.Prelude.{◌≡◌, [], ◌+◌, ◌*◌, ◌≤◌, ◌<◌, length};
 ghost use Rattle.std.proofs.lemmas.List.Edits.{sets};
 ghost use Rattle.field.specs.SmallInverses.{small_inverses};
@@ -58,7 +60,7 @@ pub fn bits_minus_33_inverses() -> [u64; 33]
 }
 
 // A row whose Result is not known yet, with the inverses of its operands.
-#[derive(Drop)]
+#[derive(Clone, Copy)]
 struct PendingRow {
     copy_flag: u64,
     bits: u64,

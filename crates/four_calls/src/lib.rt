@@ -1,5 +1,7 @@
 // Filled, padded and extended tables pass the check: theorems over the definitions of the four calls (specs/, proofs/), and `run`, which
 // makes the four calls.
+#![tactic(auto)]
+
 ghost use Rattle.list.specs.Holds.{held_list};
 ghost use Rattle.check_table.specs.Verdicts.{verdict_answer};
 ghost use Rattle.four_calls.specs.Run.{Ran, RunsHonestly, RefusesNoMore};

@@ -1,4 +1,6 @@
 // The six instructions of the U32 table, and an entry of it: admission, height, order.
+#![tactic(auto)]
+
 ghost use Rattle.std.specs.Prelude.{◌≡◌, ◌≤◌, not, ◌&&◌, ltb};
 ghost use Rattle.words.specs.declared.Refusal.TheVariants.{Wide};
 ghost use Rattle.words.specs.Refusals.{decline_if};
@@ -34,20 +36,20 @@ pub const MERKLE_STEP_MEM: u64 = 44;
 pub const OPERAND_LIMIT: u64 = 4294967296;
 
 // An executed U32 instruction with its operands; any words.
-#[derive(Drop)]
+#[derive(Clone, Copy)]
 pub struct U32TableEntry {
     pub opcode: u64,
     pub left_operand: u64,
     pub right_operand: u64,
 }
 
-#[derive(Drop)]
+#[derive(Clone, Copy)]
 pub enum Admission {
     Admitted(U32TableEntry),
     Refused(Refusal),
 }
 
-#[derive(Drop)]
+#[derive(Clone, Copy)]
 pub enum Order {
     Less,
     Equal,

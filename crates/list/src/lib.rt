@@ -1,5 +1,7 @@
 // Lists of entries with their multiplicities, judged. A list is its sizes, its keys, three words a place, and its multiplicities, one a place; its
 // holds, one a place, stand beside it.
+#![tactic(auto)]
+
 ghost use Rattle.std.specs.Prelude.{◌≡◌, true, ℕ, ◌+◌, ◌*◌, ◌-◌, ◌≤◌, ◌<◌, List, length, replicate};
 ghost use Rattle.std.proofs.lemmas.List.Edits.{sets};
 ghost use Rattle.words.specs.Limits.{max_places};
@@ -16,14 +18,14 @@ use isa::{Admission, POW, U32TableEntry};
 use words::{Judgement, MAX_PLACES, MULTIPLICITY_LIMIT, Refusal};
 
 // A list's places: how many there are, and how many hold an entry.
-#[derive(Drop)]
+#[derive(Clone, Copy)]
 pub struct Sizes {
     pub capacity: usize,
     pub used: usize,
 }
 
 // A list judged: its height, or why it is declined.
-#[derive(Drop)]
+#[derive(Clone, Copy)]
 pub enum Judged {
     Height(u64),
     Refused(Refusal),

@@ -1,4 +1,6 @@
 // The bytes of a stored list: what they hold, and putting them.
+#![tactic(auto)]
+
 ghost use Rattle.std.specs.Prelude.{◌≡◌, ℕ, ◌+◌, ◌*◌, ◌≤◌, ◌<◌, length};
 ghost use mathlib.Core.List.{List, map, flat_map};
 ghost use Rattle.std.proofs.lemmas.List.Edits.{sets};

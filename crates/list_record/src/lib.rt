@@ -1,5 +1,7 @@
 // Planning, recording, and recording in two parts: a hold, then its confirmation or its end. A list is its sizes, its keys, three words a place, its
 // multiplicities and its holds, one each a place.
+#![tactic(auto)]
+
 ghost use Rattle.std.specs.Prelude.{◌≡◌, ◌+◌, ◌*◌, ◌^◌, ◌≤◌, ◌<◌, length};
 ghost use Rattle.words.specs.Outcomes.{Leaves, completed_answer};
 ghost use Rattle.isa.specs.Entries.{entry, entry_width};
@@ -16,21 +18,21 @@ pub use words::MAX_PLACES;
 use words::{Completed, Judgement, MIN_PADDED_HEIGHT, Refusal};
 
 // Height and padded height of a list, or why it is declined.
-#[derive(Drop)]
+#[derive(Clone, Copy)]
 pub enum Planned {
     Heights { height: u64, padded: u64 },
     Refused(Refusal),
 }
 
 // The place of a recorded or held key, or why the recording is declined.
-#[derive(Drop)]
+#[derive(Clone, Copy)]
 pub enum Recorded {
     At(usize),
     Refused(Refusal),
 }
 
 // Where an entry goes: the place of an equal key, or nowhere yet and this is the new key; or why it is declined.
-#[derive(Drop)]
+#[derive(Clone, Copy)]
 pub enum Place {
     Known(usize),
     New(U32TableEntry),
@@ -38,7 +40,7 @@ pub enum Place {
 }
 
 // The answer of a recording, and the list's sizes after it.
-#[derive(Drop)]
+#[derive(Clone, Copy)]
 pub struct Recording {
     pub answer: Recorded,
     pub sizes: Sizes,

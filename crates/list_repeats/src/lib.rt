@@ -1,4 +1,6 @@
 // Whether keys of a list are equal.
+#![tactic(auto)]
+
 ghost use Rattle.std.specs.Prelude.{◌≡◌, ℕ, ◌+◌, ◌*◌, ◌%◌, ◌≤◌, List, map, length};
 ghost use Rattle.words.specs.Limits.{max_places};
 ghost use Rattle.words.specs.Places.{places};

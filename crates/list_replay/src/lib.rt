@@ -1,4 +1,6 @@
 // Replay: a trace of steps goes onto a list, in order. A step is three words: its opcode, its first and its second value.
+#![tactic(auto)]
+
 ghost use Rattle.std.specs.Prelude.{◌≡◌, ◌≢◌, [], ◌∷◌};
 ghost use Rattle.words.specs.Outcomes.{Leaves, completed_answer};
 ghost use Rattle.list.specs.Holds.{held_list};
@@ -19,7 +21,7 @@ use words::{Completed, Judgement, Refusal};
 pub const STEP_WIDTH: usize = 3;
 
 // What a step records: an entry, or two, both or neither; or why it is refused.
-#[derive(Drop)]
+#[derive(Clone, Copy)]
 pub enum StepEntries {
     One(U32TableEntry),
     Two(U32TableEntry, U32TableEntry),
@@ -27,21 +29,21 @@ pub enum StepEntries {
 }
 
 // All steps are done, this many; or the reason of the first refused one, and how many went before it.
-#[derive(Drop)]
+#[derive(Clone, Copy)]
 pub enum Replayed {
     Done(usize),
     Stopped { reason: Refusal, done: usize },
 }
 
 // The answer of a replay, and the list's sizes after it.
-#[derive(Drop)]
+#[derive(Clone, Copy)]
 pub struct Replaying {
     pub answer: Replayed,
     pub sizes: Sizes,
 }
 
 // The answer of one step, and the list's sizes after it.
-#[derive(Drop)]
+#[derive(Clone, Copy)]
 pub struct Stepping {
     pub answer: Completed,
     pub sizes: Sizes,

@@ -1,13 +1,15 @@
 // The two round trips of stored lists, as two calls each: what was written reads back as the counted keys with their counts, and what was accepted,
 // without a multiplicity 0, is written again in the new form, to the same bytes where it has that form. Where the first call refuses, the second is
 // not made.
+#![tactic(auto)]
+
 ghost use Rattle.list.specs.Holds.{held_list};
 ghost use Rattle.list_round_trips.specs.RoundTrips.{IsWrittenThenRead, IsReadThenWritten};
 
 use list::Sizes;
 use list_stored::{Read, Reading, Written};
 
-#[derive(Drop)]
+#[derive(Clone, Copy)]
 pub struct Rewriting {
     pub answer: Written,
     pub sizes: Sizes,

@@ -1,5 +1,7 @@
 // Two recorders on one list of keys, each with its own multiplicities and holds. A call that may bring places into use is lent the caller's own arrays, then
 // the other's: it does to its own what the call alone does, and at the places that have come into use the other has no count and no hold.
+#![tactic(auto)]
+
 ghost use Rattle.std.specs.Prelude.{◌≡◌, ◌&&◌, ◌-◌, eqb, length, replicate};
 ghost use Rattle.std.proofs.lemmas.List.Edits.{sets};
 ghost use Rattle.words.specs.Outcomes.{Leaves};

@@ -1,4 +1,6 @@
 // Stored lists: reading bytes into a list, writing a list as bytes. What is wrong is refused with its reason, and then nothing lent changes.
+#![tactic(auto)]
+
 ghost use Rattle.std.specs.Prelude.{◌≡◌, ◌*◌, ◌≤◌, length};
 ghost use Rattle.words.specs.Limits.{max_places};
 ghost use Rattle.words.specs.Outcomes.{Leaves};
@@ -15,20 +17,20 @@ use list::{Judged, Sizes};
 use words::{Judgement, MAX_PLACES, Refusal};
 
 // The number of entries read, or the reason to decline.
-#[derive(Drop)]
+#[derive(Clone, Copy)]
 pub enum Read {
     Entries(usize),
     Refused(Refusal),
 }
 
-#[derive(Drop)]
+#[derive(Clone, Copy)]
 pub struct Reading {
     pub answer: Read,
     pub sizes: Sizes,
 }
 
 // The number of bytes written, or the reason to decline.
-#[derive(Drop)]
+#[derive(Clone, Copy)]
 pub enum Written {
     Length(usize),
     Refused(Refusal),

@@ -1,5 +1,7 @@
 // The byte lookup and the cascade: their outputs, and the recording of a 16-bit value. The cascade is its sizes, its keys, one 16-bit word a
 // place, and its multiplicities, one a place; beside it stand the multiplicities of the 256 bytes.
+#![tactic(auto)]
+
 ghost use Rattle.std.specs.Prelude.{◌≡◌, true, false, ◌+◌, ◌*◌, ◌≤◌, ◌<◌, length, get_or};
 ghost use Rattle.words.specs.Limits.{byte_rows};
 ghost use Rattle.words.specs.Outcomes.{Leaves, completed_answer};
@@ -71,7 +73,7 @@ pub fn cascade_lookup(value: u16) -> u16
 }
 
 // Where a value goes: the place of the first equal key, or nowhere yet; or why it is declined.
-#[derive(Drop)]
+#[derive(Clone, Copy)]
 pub enum LimbPlace {
     Known(usize),
     New,
@@ -79,7 +81,7 @@ pub enum LimbPlace {
 }
 
 // The answer of a recording, and the cascade's sizes after it.
-#[derive(Drop)]
+#[derive(Clone, Copy)]
 pub struct LookupRecording {
     pub answer: Completed,
     pub sizes: Sizes,

@@ -1,5 +1,7 @@
 // The running sums of the byte lookup and of the cascade, so far at each byte or used place, stored in the aux words. All is judged before the
 // first aux word is written.
+#![tactic(auto)]
+
 ghost use Rattle.std.specs.Prelude.{◌≡◌, ℕ, ◌*◌, ◌≤◌, ◌<◌, List, length, get_or};
 ghost use Rattle.std.proofs.lemmas.List.Edits.{sets};
 ghost use Rattle.words.specs.Limits.{byte_rows};
@@ -22,7 +24,7 @@ use words::{BYTE_ROWS, Refusal};
 use xfield::XFieldElement;
 
 // The challenges of a lookup table: three extension elements, the indeterminate last.
-#[derive(Drop)]
+#[derive(Clone, Copy)]
 pub struct LookupChallenges {
     pub input_weight: XFieldElement,
     pub output_weight: XFieldElement,

@@ -1,4 +1,6 @@
 // The names of the forty constraints, those of the source, by group and index. They stand in one text, one after the other.
+#![tactic(auto)]
+
 ghost use Rattle.std.specs.Prelude.{◌+◌, ◌-◌, ◌≤◌, cond, ◌≡◌, ltb, length, take, drop};
 ghost use Rattle.text.specs.Lines.{field_line};
 ghost use Rattle.text.specs.Put.{Put};

@@ -1,4 +1,6 @@
 // Numbers in a text, read byte by byte: decimal digits, with one or more spaces or newlines between the numbers and anywhere around them.
+#![tactic(auto)]
+
 ghost use Rattle.std.specs.Prelude.{replicate, ◌≡◌, ◌≤◌};
 ghost use Rattle.numbers.specs.Numbers.{start_place, line_of_next, gap_step, digit_step, step_of};
 
@@ -6,7 +8,7 @@ ghost use Rattle.numbers.specs.Numbers.{start_place, line_of_next, gap_step, dig
 const MAX_WORD: u64 = 18446744073709551615;
 
 // How far a text has been read.
-#[derive(Drop)]
+#[derive(Clone, Copy)]
 pub struct Place {
     // The line of the byte read last, counted from 1, and 1 before the first byte.
     pub line: u64,
@@ -19,7 +21,7 @@ pub struct Place {
 }
 
 // What one more byte is.
-#[derive(Drop)]
+#[derive(Clone, Copy)]
 pub enum Step {
     // A part of a number, or of what stands between numbers.
     On(Place),

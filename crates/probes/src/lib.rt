@@ -1,6 +1,8 @@
 // C functions onto the insides of the library, for bench/ and for the comparison with the Rust in oracle/compare: the value of every
 // constraint on a pair of rows, and element operations by the array. Each answers 0, or 1 where a lent array has not the length that it
 // asks for; nothing is written then.
+#![tactic(auto)]
+
 ghost use Rattle.std.specs.Prelude.{◌≡◌, [], ◌∷◌, map, ◌+◌, ◌*◌, ◌≤◌, length};
 ghost use Rattle.std.proofs.lemmas.List.Edits.{sets};
 ghost use Rattle.xfield.specs.Extension.{add_x, sub_x, mul_x};
@@ -185,7 +187,7 @@ pub extern "C" fn probe_ext_inverses(words: &[u64], out: &mut [u64]) -> u64
 }
 
 // ---- sums, differences and products of extension elements, three words each
-#[derive(Drop)]
+#[derive(Clone, Copy)]
 enum Operation {
     Sum,
     Difference,

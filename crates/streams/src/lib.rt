@@ -1,5 +1,7 @@
 // Standard input and standard output of a program: a call that is interrupted is made again, and one that fails says so in a line on standard
 // error. Lines of a program's own for standard error.
+#![tactic(auto)]
+
 ghost use Rattle.std.specs.Prelude.{◌≤◌, length};
 ghost use Rattle.streams.specs.Streams.{GotIn, ReachedIn, FilledIn};
 
@@ -9,7 +11,7 @@ use libc::{EINTR, STDERR_FILENO, STDIN_FILENO, STDOUT_FILENO};
 const MOST_CALLS: u64 = 1152921504606846976;
 
 // What one call did.
-#[derive(Drop)]
+#[derive(Clone, Copy)]
 enum Got {
     Bytes(usize),
     // Nothing: it was interrupted.
@@ -19,7 +21,7 @@ enum Got {
 }
 
 // How far the bytes are read or written.
-#[derive(Drop)]
+#[derive(Clone, Copy)]
 enum Reached {
     At(usize),
     // No more follow.
@@ -28,7 +30,7 @@ enum Reached {
 }
 
 // How many bytes were read.
-#[derive(Drop)]
+#[derive(Clone, Copy)]
 pub enum Filled {
     Bytes(usize),
     // Not all could be read: the line is on standard error.

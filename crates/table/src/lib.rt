@@ -1,4 +1,6 @@
 // The rows of the U32 table and its challenges, as types over the flat words that are lent.
+#![tactic(auto)]
+
 ghost use Rattle.std.specs.Prelude.{◌≡◌, true, ◌&&◌, ◌+◌, ◌*◌, ◌≤◌, length};
 ghost use Rattle.std.proofs.lemmas.List.Edits.{sets};
 ghost use Rattle.xfield.specs.XFieldElements.{ext_of};
@@ -73,7 +75,7 @@ pub fn all_reduced(words: &[u64]) -> bool
 }
 
 // A row of the main table: its ten columns.
-#[derive(Drop)]
+#[derive(Clone, Copy)]
 pub struct MainRow {
     pub copy_flag: BFieldElement,
     pub bits: BFieldElement,
@@ -164,7 +166,7 @@ pub fn element_at(words: &[u64], i: usize) -> XFieldElement
 }
 
 // A row of the aux table: the sum so far, in one column of an extension element.
-#[derive(Drop)]
+#[derive(Clone, Copy)]
 pub struct AuxRow {
     pub lookup_server_log_derivative: XFieldElement,
 }
@@ -191,7 +193,7 @@ impl AuxRow {
 }
 
 // The challenges of the U32 table: five extension elements.
-#[derive(Drop)]
+#[derive(Clone, Copy)]
 pub struct Challenges {
     pub u32_indeterminate: XFieldElement,
     pub u32_lhs_weight: XFieldElement,

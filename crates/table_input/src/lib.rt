@@ -1,5 +1,7 @@
 // The text of a table, read from standard input in parts as it comes (crate table_text), for the programs that take one. No contract can say which
 // bytes are read; this one says that the numbers of the text have places among the lent words.
+#![tactic(auto)]
+
 ghost use Rattle.std.specs.Prelude.{◌≤◌, length};
 ghost use Rattle.table_text.specs.TableText.{max_words, Within};
 ghost use Rattle.table_input.specs.Reads.{FedWithin, ReadWithin};
@@ -11,7 +13,7 @@ use table_text::Stage;
 const MOST_PARTS: u64 = 1152921504606846976;
 
 // How far the text is read.
-#[derive(Drop)]
+#[derive(Clone, Copy)]
 enum Fed {
     // More may follow.
     More(Stage),
@@ -22,7 +24,7 @@ enum Fed {
 }
 
 // What reading the text came to.
-#[derive(Drop)]
+#[derive(Clone, Copy)]
 pub enum Whole {
     Text(Stage),
     // The line is on standard error.

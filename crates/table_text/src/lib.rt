@@ -1,5 +1,7 @@
 // The text of a table that anyone may have made, read byte by byte as it comes, in parts of any sizes: fifteen challenge words, the number of
 // rows, and ten words a row.
+#![tactic(auto)]
+
 ghost use Rattle.std.specs.Prelude.{◌*◌, ◌≤◌, ◌<◌, ◌≡◌, length, replicate};
 ghost use Rattle.table_text.specs.TableText.{max_words, Fed, IsFed, Within, start_stage, take_number, feed_byte, feed_all, end_number, taken_of};
 ghost use Rattle.table_text.specs.Answers.{max_answer, verdict_lines, verdict_text, taken_text, answer_text};
@@ -25,14 +27,14 @@ const HEAD: usize = 16;
 pub const MAX_ROWS: u64 = 16384;
 
 // How far a text of numbers has been read: so many numbers so far, of so many that are due.
-#[derive(Drop)]
+#[derive(Clone, Copy)]
 pub struct Reader {
     pub place: Place,
     pub count: usize,
     pub due: usize,
 }
 
-#[derive(Drop)]
+#[derive(Clone, Copy)]
 pub enum Stage {
     Reading(Reader),
     // No such text goes on so: the line.
@@ -42,7 +44,7 @@ pub enum Stage {
 }
 
 // What a whole text is.
-#[derive(Drop)]
+#[derive(Clone, Copy)]
 pub enum Taken {
     // A table of so many rows.
     Rows(usize),

@@ -1,5 +1,7 @@
 // Text is put into a lent buffer from a place on. Each function answers the place after what it put, and requires that the buffer has
 // room for it.
+#![tactic(auto)]
+
 ghost use Rattle.std.specs.Prelude.{◌+◌, ◌-◌, ◌≤◌, ◌<◌, [], ◌∷◌, ◌++◌, map, length};
 ghost use Rattle.text.specs.Lines.{decimal, line_rest, head_line, row_line, sum_line, verdict_line, refused_line};
 ghost use Rattle.text.specs.Lines.{field_line, malformed_line, too_many_line, spaces, column};

@@ -1,4 +1,6 @@
 // From the bytes that `u32list` reads to the text that it prints: the calls in a row, and their answers as lines.
+#![tactic(auto)]
+
 ghost use Rattle.std.specs.Prelude.{◌+◌, ◌*◌, ◌≤◌, ◌≡◌, length, replicate};
 ghost use Rattle.words.specs.Outcomes.{Leaves};
 ghost use Rattle.words.specs.Refusals.{refusal_number};
@@ -49,7 +51,7 @@ pub fn room() -> [u8; MAX_TEXT]
 }
 
 // The length of the text, or why none was put.
-#[derive(Drop)]
+#[derive(Clone, Copy)]
 pub enum Transcribed {
     Length(usize),
     Refused(Refusal),

@@ -2,6 +2,8 @@
 // Further answers go into `answers`, a lent array of words: with fewer words than the call states it is refused with 1 before anything else is
 // looked at; on every other refusal it is untouched, but for u32_table_replay, which says on a refusal too how many steps were done. Its words past
 // those stated are always untouched.
+#![tactic(auto)]
+
 ghost use Rattle.std.specs.Prelude.{◌≡◌};
 ghost use Rattle.isa.specs.Entries.{entry};
 ghost use Rattle.batches.specs.Batches.{batch_all};

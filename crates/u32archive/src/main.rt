@@ -1,6 +1,8 @@
 // u32archive: `u32archive pack` reads the text of a table from standard input and writes its archive; `u32archive unpack` reads an archive and prints
 // its rows, each with its sum. What is refused is said on standard error, and then nothing is written to standard output. `archive_text` does all of it
 // but the reading and the writing.
+#![tactic(auto)]
+
 ghost use Rattle.std.specs.Prelude.{◌+◌, ◌*◌, ◌≤◌, length};
 ghost use Rattle.table_text.specs.TableText.{max_words, most_rows};
 ghost use Rattle.archive_text.specs.Packing.{max_archive};

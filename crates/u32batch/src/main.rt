@@ -1,5 +1,7 @@
 // u32batch: reads settings and jobs' heights from standard input, tries each setting, and writes a table of what it gives. `batch_text` does all of it
 // but the reading and the writing.
+#![tactic(auto)]
+
 ghost use Rattle.std.specs.Prelude.{◌≤◌, length};
 ghost use Rattle.batch_text.specs.Sheet.{max_words, Within};
 ghost use Rattle.u32batch.specs.Reads.{FedWithin, ReadWithin};
@@ -11,7 +13,7 @@ use streams::Filled;
 const MOST_PARTS: u64 = 1152921504606846976;
 
 // How far the text is read.
-#[derive(Drop)]
+#[derive(Clone, Copy)]
 enum Fed {
     // More may follow.
     More(Stage),
@@ -21,7 +23,7 @@ enum Fed {
     Failed,
 }
 
-#[derive(Drop)]
+#[derive(Clone, Copy)]
 enum Whole {
     Text(Stage),
     Failed,

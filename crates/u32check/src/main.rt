@@ -1,5 +1,7 @@
 // u32check: reads the text of a table that anyone may have made from standard input, sums and checks the table, and writes the check's answer.
 // `table_text` does all of it but the reading and the writing.
+#![tactic(auto)]
+
 ghost use Rattle.std.specs.Prelude.{◌≤◌, length};
 ghost use Rattle.table_text.specs.TableText.{max_words};
 

@@ -1,5 +1,7 @@
 // u32list: reads fifteen challenges and a stored list from standard input, and writes the padded table, the last sum and the check's answer.
 // `transcript` does all of it but the reading and the writing; where one of those fails, a line on standard error says so (`streams`).
+#![tactic(auto)]
+
 use streams::Filled;
 use transcript::Transcribed;
 

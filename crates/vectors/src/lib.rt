@@ -1,5 +1,7 @@
 // Reading the numbers of a vector file, and counting what a run of vectors finds. A vector file is decimal numbers with anything
 // else between them.
+#![tactic(auto)]
+
 ghost use Rattle.std.specs.Prelude.{◌≡◌, ◌≤◌, length};
 ghost use Rattle.vectors.specs.Same.{same_first};
 ghost use Rattle.vectors.specs.Counts.{counted, answered, tallied};
@@ -7,7 +9,7 @@ ghost use Rattle.vectors.specs.Counts.{counted, answered, tallied};
 use libc::{STDIN_FILENO, STDOUT_FILENO};
 
 // A number, and the place after it. Where there is none left, the value is 0 and the place the text's length.
-#[derive(Drop)]
+#[derive(Clone, Copy)]
 pub struct Parsed {
     pub value: u64,
     pub next: usize,

@@ -1,13 +1,15 @@
 // Runs the stored vectors of the check: honest, damaged and foreign tables, and all refusals. Standard input has a call a line
 // (tools/vectors.py); what is printed is how many tables were found zero, nonzero or refused, how many answers differ, and how many of the forty
 // constraints were the first nonzero one of some table. Then all lines are run again with the last wanted word of each changed: each must differ.
+#![tactic(auto)]
+
 use check_table::Verdict;
 use vectors::{
     byte_part, byte_part_mut, part, print_count, print_tally, print_text, same_words, tally,
 };
 
 // An array in a buffer: how many of its words, and the place in the text after it.
-#[derive(Drop)]
+#[derive(Clone, Copy)]
 struct Taken {
     length: usize,
     next: usize,

@@ -1,12 +1,14 @@
 // Evaluates each of the forty constraints by its index on 640 pseudo-random pairs of rows, and prints a digest of its values and how many
 // of them are zero. The original Rust prints the same lines; oracle/src/digests.rs describes the pairs and the digest.
+#![tactic(auto)]
+
 use field::BFieldElement;
 use table::{AuxRow, Challenges, MainRow};
 use vectors::{print_count, print_text};
 use xfield::XFieldElement;
 
 // The digests of the constraints so far, and how many values of each were zero.
-#[derive(Drop)]
+#[derive(Clone, Copy)]
 struct Digests {
     folds: [u64; 40],
     zeros: [u64; 40],

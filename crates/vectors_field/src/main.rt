@@ -1,6 +1,8 @@
 // Runs the stored vectors of base and extension elements: standard input has a call a line (tools/vectors.py), and what is printed is
 // how many calls of each kind were run and how many differ. Then all lines are run again with the last wanted word of each changed: each must
 // differ.
+#![tactic(auto)]
+
 use field::BFieldElement;
 use libc::STDIN_FILENO;
 use vectors::{print_count, print_tally, print_text, same_words, tally};

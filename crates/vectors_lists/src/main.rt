@@ -1,6 +1,8 @@
 // Runs the stored vectors of lists: record, compare, plan, read and write. Standard input has a call a line (tools/vectors.py) with every
 // array before and after it; what is printed is how many calls of each kind answered what, and how many differ. Then all lines are run again with
 // the last wanted number of each changed: each must differ. Holds are not in the lines: zeros are lent, one a multiplicity, and must be left.
+#![tactic(auto)]
+
 use isa::{Order, U32TableEntry};
 use list_record::{Planned, Recorded, Sizes};
 use list_stored::{Read, Written};
@@ -10,7 +12,7 @@ use vectors::{
 };
 
 // What a call answered: document 01's number, a value, and a second value of the plan.
-#[derive(Drop)]
+#[derive(Clone, Copy)]
 struct Got {
     number: u64,
     value: u64,
@@ -77,7 +79,7 @@ fn order(answer: Order) -> u64 {
 const ROOM: usize = 64;
 
 // A list in two buffers: its sizes, how many words of each buffer are its arrays, and the place in the text after it.
-#[derive(Drop)]
+#[derive(Clone, Copy)]
 struct Shape {
     sizes: Sizes,
     keys: usize,

@@ -1,6 +1,8 @@
 // Runs the stored vectors of filling, padding and extension, and of the four calls in a row. Standard input has a call a line (tools/vectors.py) with the arrays before and
 // after it; what is printed is how many calls of each kind answered what, and how many differ in an answer or a word. Then all lines are run again
 // with the last wanted number of each changed: each must differ.
+#![tactic(auto)]
+
 use check_table::Verdict;
 use extend::Extended;
 use fill::Filled;
@@ -12,7 +14,7 @@ use vectors::{
 use words::Completed;
 
 // An array in a buffer: how many of its words, and the place in the text after it.
-#[derive(Drop)]
+#[derive(Clone, Copy)]
 struct Taken {
     length: usize,
     next: usize,
@@ -26,7 +28,7 @@ fn take(text: &[u8], from: usize, buffer: &mut [u64]) -> Taken {
 }
 
 // What a call answered: document 01's number, and a value.
-#[derive(Drop)]
+#[derive(Clone, Copy)]
 struct Got {
     number: u64,
     value: u64,

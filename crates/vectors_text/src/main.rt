@@ -2,6 +2,8 @@
 // Every case is run twice, with an output of the least size that is admitted and with one that is a byte shorter. What is printed is how many
 // cases got what answer, and in how many the answer, the text or a byte past it differs. Each text is also compared with the file's bytes a place
 // later: each must differ.
+#![tactic(auto)]
+
 use transcript::{MAX_TEXT, Transcribed};
 use vectors::{byte_part, byte_part_mut, tally};
 

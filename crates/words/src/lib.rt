@@ -1,4 +1,6 @@
 // What every call shares: the reasons to decline, limits and little-endian numbers.
+#![tactic(auto)]
+
 ghost use Rattle.std.specs.Prelude.{◌≡◌, ◌+◌, ◌≤◌, ◌<◌, length};
 ghost use Rattle.std.proofs.lemmas.List.Edits.{sets};
 ghost use Rattle.words.specs.Refusals.{refusal_number};
@@ -26,7 +28,7 @@ pub const BYTE_ROWS: usize = 256;
 pub const MULTIPLICITY_LIMIT: u64 = 18446744069414584320;
 
 // Document 01's "Reasons to decline", in its order; then those of the requests.
-#[derive(Drop)]
+#[derive(Clone, Copy)]
 pub enum Refusal {
     Shape,
     Stranger,
@@ -75,14 +77,14 @@ impl Refusal {
 }
 
 // What a test of the input finds: nothing against it, or a reason to decline.
-#[derive(Drop)]
+#[derive(Clone, Copy)]
 pub enum Judgement {
     Fine,
     Declined(Refusal),
 }
 
 // The answer of a call that has no value to give: the work is done, or why it is declined.
-#[derive(Drop)]
+#[derive(Clone, Copy)]
 pub enum Completed {
     Done,
     Refused(Refusal),

@@ -1,6 +1,8 @@
 // Extension elements: three base elements (a, b, c) for a + b * X + c * X^2, with X^3 = X - 1. Every function here takes any
 // content and answers words below p; each contract is one equation, to the operation's definition in specs/Extension.antt, but
 // for the inverse, whose contract is its meaning.
+#![tactic(auto)]
+
 ghost use Rattle.std.specs.Prelude.{◌≡◌};
 ghost use Rattle.field.specs.Elements.{add_f, sub_f, mul_f};
 ghost use Rattle.xfield.specs.Extension.{ext, lift_x, reduce_x, add_x, sub_x, mul_x, scale_x, InverseOrZeroX, equal_x, is_zero_x};
@@ -8,7 +10,7 @@ ghost use Rattle.xfield.specs.XFieldElements.{ext_of};
 
 use field::BFieldElement;
 
-#[derive(Drop)]
+#[derive(Clone, Copy)]
 pub struct XFieldElement(pub BFieldElement, pub BFieldElement, pub BFieldElement);
 
 impl XFieldElement {
