@@ -21,6 +21,7 @@ whole_turn r s t u w = omega (arith, w, ap (λ (x : ℕ). u * x) (div-add-mod' r
 
 -- a coefficient is at most p
 pub fits : (r s t u : ℕ) → Whole r s t u → 0 < s → t ≤ p
+fits r zero t u w h = elim h [ ]
 fits r (suc s) t u w h = omega (arith, w)
 
 -- and below it, before the last turn

@@ -13,6 +13,7 @@ use Rattle.field.specs.Primes.{Prime}
 
 -- one step of the inverse: n = a * q + r gives a * (n - q) ≡ r
 pub inv_step : (n a : ℕ) → 0 < a → a < n → Cong n (a * (n - n / a)) (n % a)
+inv_step n zero l h = elim l [ ]
 inv_step n (suc b) l h = c_eq eq ⨾ record { same = mul-add-mod_self_right b n (n % suc b) }
   where
     qw : n ≡ n / suc b + (n - n / suc b)

@@ -23,8 +23,8 @@ squared_mod m (suc k) c = squared_mod m k (c * c % m)
 
 squared_cong : {m a b : ℕ} (k : ℕ) → Cong m a b → Cong m (squared k a) (squared k b)
 unfolding squared
-squared_cong zero h = h
-squared_cong (suc k) h = squared_cong k (c_mul h h)
+squared_cong {a = a} {b = b} zero h = h
+squared_cong {a = a} {b = b} (suc k) h = squared_cong {a = a * a} {b = b * b} k (c_mul h h)
 
 pub squared_mod_squared : (m k c : ℕ) → Cong m (squared_mod m k c) (squared k c)
 unfolding squared squared_mod

@@ -2,8 +2,7 @@
 use Rattle.std.proofs.Common.{◌≡◌, ℕ, ◌%◌, ◌^◌, ◌<◌, Bool, true, false, eqb, ◌≢◌, sym, refl, arith, rules, eq-eqb, ne_eqb, eqb-true}
 use borrow.Author.Tests.{eqb-false}
 use Rattle.field.specs.Elements.{p, is_zero_f}
-use Rattle.field.proofs.BFieldElement.is_zero.Statement.{statement}
-use Rattle.field.proofs.BFieldElement.is_zero.Tie as tie
+use Rattle.field.proofs.BFieldElement.is_zero.Goals as goal
 
 p_is_the_other_zero : (x : ℕ) → x < 2 ^ 64 → x ≢ 0 → eqb x p ≡ is_zero_f x
 unfolding is_zero_f
@@ -13,12 +12,9 @@ p_is_the_other_zero x l f = go (eqb x p) refl
     go true e = let same = eqb-true x p e in sym (eq-eqb (x % p) 0 (omega arith))
     go false e = let other = eqb-false x p e in sym (ne_eqb (x % p) 0 (λ z. other (omega (arith, f, l, z))))
 
-returns : tie.Need-returns
+pub returns-then-self-eq0 : goal.returns-then-self-eq0
 unfolding is_zero_f
-returns c = rw c.if1.true
+returns-then-self-eq0 c = rw c.if-self-eq0.true
 
-returns_2 : tie.Need-returns-2
-returns_2 c = p_is_the_other_zero _ (search rules) c.before.if1.false
-
-pub is_zero_spec : {M : Type 1} → statement M
-is_zero_spec = tie.close (tie.spec returns returns_2)
+pub returns-else-self-eq0 : goal.returns-else-self-eq0
+returns-else-self-eq0 c = p_is_the_other_zero _ (search rules) c.if-self-eq0.false
