@@ -5,7 +5,7 @@
 ghost use Rattle.std.specs.Prelude.{◌≤◌, length};
 ghost use Rattle.streams.specs.Streams.{GotIn, ReachedIn, FilledIn};
 
-use libc::{EINTR, STDERR_FILENO, STDIN_FILENO, STDOUT_FILENO};
+use std::io::{Cursor, Error, ErrorKind, Read, Write};
 
 // No program makes so many calls: the loops end.
 const MOST_CALLS: u64 = 1152921504606846976;
@@ -37,45 +37,74 @@ pub enum Filled {
     Failed,
 }
 
-// One read.
-fn read_part(part: &mut [u8]) -> Got
-    ensures { GotIn result part.new }
-{
-    let got = libc::read(STDIN_FILENO, part);
-    if got < 0 {
-        if os::errno() == EINTR {
-            return Got::Again;
+// An error's text as the system has it: std appends its number, in parentheses.
+fn reason(text: &[u8]) -> &[u8] {
+    match text.iter().rposition(|b| *b == b'(') {
+        Some(at) => {
+            if 0 < at {
+                return &text[..at - 1];
+            }
+            text
         }
-        os::fail(b"standard input");
-        return Got::Failed;
+        None => text,
     }
-    Got::Bytes(io::count(got, part))
 }
 
-// One write.
-fn write_part(part: &[u8]) -> Got
+// Writes a line to standard error: what failed, a colon and the system's text.
+fn fail(rt: &HostRuntime, what: &[u8], error: &Error) {
+    let mut text = Cursor::new([0u8; 256]);
+    let _ = write!(text, "{error}");
+    let n = text.position();
+    let bytes = text.into_inner();
+    write_error(rt, what);
+    write_error(rt, b": ");
+    if n <= 256 {
+        write_error(rt, reason(&bytes[..n as usize]));
+    }
+    write_error(rt, b"\n");
+}
+
+// One read. std does not make an interrupted call again here.
+fn read_part(rt: &HostRuntime, part: &mut [u8]) -> Got
+    ensures { GotIn result part.new }
+{
+    match rt.stdin().read(part) {
+        Ok(n) => Got::Bytes(n),
+        Err(error) => {
+            if error.kind() == ErrorKind::Interrupted {
+                return Got::Again;
+            }
+            fail(rt, b"standard input", &error);
+            Got::Failed
+        }
+    }
+}
+
+// One write, likewise.
+fn write_part(rt: &HostRuntime, part: &[u8]) -> Got
     ensures { GotIn result part.now }
 {
-    let put = libc::write(STDOUT_FILENO, part);
-    if put < 0 {
-        if os::errno() == EINTR {
-            return Got::Again;
+    match rt.stdout().write(part) {
+        Ok(n) => Got::Bytes(n),
+        Err(error) => {
+            if error.kind() == ErrorKind::Interrupted {
+                return Got::Again;
+            }
+            fail(rt, b"standard output", &error);
+            Got::Failed
         }
-        os::fail(b"standard output");
-        return Got::Failed;
     }
-    Got::Bytes(io::count(put, part))
 }
 
 // One read of what follows the bytes that are there.
-fn read_more(buf: &mut [u8], done: usize) -> Reached
+fn read_more(rt: &HostRuntime, buf: &mut [u8], done: usize) -> Reached
     requires { done ≤ length buf.old }
     ensures { ReachedIn result buf.new }
 {
     if done == buf.len() {
         return Reached::End;
     }
-    match read_part(&mut buf[done..]) {
+    match read_part(rt, &mut buf[done..]) {
         Got::Bytes(n) => {
             if n == 0 {
                 return Reached::End;
@@ -88,14 +117,14 @@ fn read_more(buf: &mut [u8], done: usize) -> Reached
 }
 
 // One write of what follows the bytes that are written.
-fn write_more(bytes: &[u8], done: usize) -> Reached
+fn write_more(rt: &HostRuntime, bytes: &[u8], done: usize) -> Reached
     requires { done ≤ length bytes.now }
     ensures { ReachedIn result bytes.now }
 {
     if done == bytes.len() {
         return Reached::End;
     }
-    match write_part(&bytes[done..]) {
+    match write_part(rt, &bytes[done..]) {
         Got::Bytes(n) => Reached::At(done + n),
         Got::Again => Reached::At(done),
         Got::Failed => Reached::Failed,
@@ -103,14 +132,14 @@ fn write_more(bytes: &[u8], done: usize) -> Reached
 }
 
 // Reads standard input until the buffer is full or the input ends.
-pub fn read_full(buf: &mut [u8]) -> Filled
+pub fn read_full(rt: &HostRuntime, buf: &mut [u8]) -> Filled
     ensures { FilledIn result buf.new }
 {
     let mut done: usize = 0;
     let mut calls = MOST_CALLS;
     while 0 < calls {
         calls -= 1;
-        let reached = read_more(buf, done);
+        let reached = read_more(rt, buf, done);
         match reached {
             Reached::At(next) => done = next,
             Reached::End => return Filled::Bytes(done),
@@ -121,12 +150,12 @@ pub fn read_full(buf: &mut [u8]) -> Filled
 }
 
 // Writes all of the bytes to standard output, or says that they could not be written.
-pub fn write_all(bytes: &[u8]) {
+pub fn write_all(rt: &HostRuntime, bytes: &[u8]) {
     let mut done: usize = 0;
     let mut calls = MOST_CALLS;
     while 0 < calls {
         calls -= 1;
-        let reached = write_more(bytes, done);
+        let reached = write_more(rt, bytes, done);
         match reached {
             Reached::At(next) => done = next,
             Reached::End => return,
@@ -136,6 +165,7 @@ pub fn write_all(bytes: &[u8]) {
 }
 
 // Writes a line to standard error. Where that fails, there is no place left to say so.
-pub fn write_error(line: &[u8]) {
-    io::write_all(STDERR_FILENO, line);
+// std makes an interrupted call again.
+pub fn write_error(rt: &HostRuntime, line: &[u8]) {
+    let _ = Print::write_all(&rt.stderr(), line);
 }
