@@ -1,0 +1,20 @@
+-- `batch_text::put_setting` meets its contract: the totals that the setting gives, or the reason against it.
+use mathlib.Core.Path.{sym, ap, ◌∙◌}
+use Rattle.batches.specs.Batches.{trial_answer}
+use Rattle.batches.proofs.Answering.{trial_bounds}
+use Rattle.batch_text.proofs.Tables.{totals_due, refusal_due}
+use borrow.Author.Rules.{rules}
+use Rattle.batch_text.proofs.put_setting.Goals as goal
+
+pub put_totals-requires : goal.put_totals-requires
+put_totals-requires c =
+    (c.requires, trial_bounds c.args.jobs.now c.args.setting (ap trial_answer (sym c.in-Totals.is) ∙ c.try_setting.ensures))
+
+pub returns-in-Refused : goal.returns-in-Refused
+returns-in-Refused c =
+    refusal_due c.args.jobs.now c.args.setting c.in-Refused.reason (ap trial_answer (sym c.in-Refused.is) ∙ c.try_setting.ensures) c.number.ensures
+    c.put_refusal.ensures
+
+pub returns-in-Totals : goal.returns-in-Totals
+returns-in-Totals c =
+    totals_due c.args.jobs.now c.args.setting (ap trial_answer (sym c.in-Totals.is) ∙ c.try_setting.ensures) c.put_totals.ensures

@@ -1,0 +1,10 @@
+-- `batch_text::share` meets its contract: nothing is divided by 0, and the product is a word.
+use Rattle.batch_text.proofs.Tables.{share_none, share_some}
+use borrow.Author.Rules.{rules}
+use Rattle.batch_text.proofs.share.Goals as goal
+
+pub returns-then-rows-padding-eq0 : goal.returns-then-rows-padding-eq0
+returns-then-rows-padding-eq0 c = share_none _ _ c.if-rows-padding-eq0.true
+
+pub returns : goal.returns
+returns c = share_some _ _ c.if-rows-padding-eq0.false

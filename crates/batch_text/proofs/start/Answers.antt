@@ -1,0 +1,6 @@
+-- `batch_text::start` meets its contract.
+use borrow.Author.Rules.{rules}
+use Rattle.batch_text.proofs.start.Goals as goal
+
+pub returns : goal.returns
+returns c = rw c.start.ensures

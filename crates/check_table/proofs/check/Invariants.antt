@@ -1,0 +1,19 @@
+-- What the loop of `check` keeps, and what falls with each turn.
+use Prim.Native.Nat.{ℕ, ◌+◌, ◌-◌, ◌≤◌}
+use mathlib.Core.Path.{◌≡◌, sym, ◌∙◌}
+use native.Mathlib.Omega.{arith}
+use borrow.Author.Rules.{rules}
+use Rattle.air.specs.Check.{check_all}
+use Rattle.check_table.proofs.Groups.{first_in_groups, groups_done}
+use Rattle.air.proofs.Judging.{accepted}
+use Rattle.check_table.specs.declared.Verdict.TheVariants.{Zero, Nonzero, Refused}
+use Rattle.check_table.proofs.Joined.{refused, not_refused, group_found, group_passed}
+use Rattle.check_table.proofs.Clauses.{clauses}
+use Rattle.check_table.proofs.check.Given as goal
+
+abbrev pub invariant-groups : goal.invariant-groups
+invariant-groups l =
+    (l.group ≤ 4) × (check_all l.table l.aux l.challenges ≡ first_in_groups l.table l.aux l.challenges l.group (4 - l.group))
+
+abbrev pub decreases-groups : goal.decreases-groups
+decreases-groups l = 4 - l.group

@@ -1,0 +1,6 @@
+-- `client_sum::denominator_of` meets its contract: the Result is the plain function's. Assumes nothing.
+use borrow.Author.Rules.{rules}
+use Rattle.client_sum.proofs.denominator_of.Goals as goal
+
+pub returns : goal.returns
+returns c = rw (c.denominator.ensures, c.plain_result.ensures)

@@ -1,0 +1,29 @@
+-- What the loop of `put_entries` keeps, and what falls with each turn.
+use Prim.Native.Nat.{ℕ, ◌≤◌, ◌-◌, ◌+◌, ◌*◌}
+use mathlib.Core.Path.{◌≡◌, refl, sym, ap, ◌∙◌}
+use mathlib.Core.List.{List, flat_map}
+use native.Mathlib.Nat.{sub-zero, add-zero}
+use borrow.Author.Rules.{rules}
+use lib.ListN.{length}
+use lib.Seq.{sets}
+use Rattle.words.specs.Places.{places_from, places}
+use Rattle.words.proofs.Places.{flat_turn, flat_done}
+use Rattle.isa.specs.declared.U32TableEntry.{U32TableEntry}
+use Rattle.list.specs.declared.Sizes.{Sizes}
+use Rattle.list.specs.Lists.{u32_list, entry_at}
+use Rattle.list_bytes.specs.Packed.{key_width, key_bytes}
+use Rattle.list_bytes.proofs.Format.{length_key}
+use Rattle.list_bytes.proofs.put_entries.Given as goal
+
+-- the bytes of the entry at place i
+abbrev pub block : List ℕ → Sizes → List ℕ → ℕ → List ℕ
+block keys s ms i = key_bytes (entry_at (u32_list s keys ms) i)
+
+abbrev pub invariant-loop-i : goal.invariant-loop-i
+invariant-loop-i l =
+    (l.i ≤ l.n) × (length l.out ≡ length l.initial.out)
+    × ((s : Sizes) (ms : List ℕ) → sets l.initial.out l.at (flat_map (block l.keys s ms) (places l.n))
+    ≡ sets l.out (l.at + key_width * l.i) (flat_map (block l.keys s ms) (places_from l.i (l.n - l.i))))
+
+abbrev pub decreases-loop-i : goal.decreases-loop-i
+decreases-loop-i l = l.n - l.i

@@ -1,0 +1,24 @@
+-- What the loop of `unpack` keeps, and what falls with each turn.
+use Prim.Native.Nat.{ℕ, ◌≤◌, ◌<◌, ◌-◌, ◌+◌, ◌*◌}
+use mathlib.Core.Path.{◌≡◌, refl, sym, ap, ◌∙◌}
+use mathlib.Core.List.{List, map, flat_map}
+use native.Mathlib.Nat.{sub-zero, zero-add}
+use borrow.Author.Rules.{rules}
+use lib.ListN.{length, length-set}
+use lib.Seq.{sets}
+use Rattle.words.specs.Places.{places_from, places}
+use Rattle.words.proofs.Places.{flat_turn, flat_done, map_turn, places_done}
+use Rattle.isa.specs.Entries.{entry_words, entry_width}
+use Rattle.list_bytes.specs.Packed.{stored_entry, stored_multiplicity}
+use Rattle.list_bytes.proofs.unpack.Given as goal
+
+abbrev pub invariant-loop-i : goal.invariant-loop-i
+invariant-loop-i l =
+    (l.i ≤ l.n) × (length l.keys ≡ length l.initial.keys) × (length l.multiplicities ≡ length l.initial.multiplicities)
+    × (sets l.initial.keys 0 (flat_map (λ l.i. entry_words (stored_entry l.bytes l.i)) (places l.n))
+    ≡ sets l.keys (0 + entry_width * l.i) (flat_map (λ l.i. entry_words (stored_entry l.bytes l.i)) (places_from l.i (l.n - l.i))))
+    × (sets l.initial.multiplicities 0 (map (stored_multiplicity l.bytes) (places l.n))
+    ≡ sets l.multiplicities l.i (map (stored_multiplicity l.bytes) (places_from l.i (l.n - l.i))))
+
+abbrev pub decreases-loop-i : goal.decreases-loop-i
+decreases-loop-i l = l.n - l.i

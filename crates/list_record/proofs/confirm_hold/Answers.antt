@@ -1,0 +1,96 @@
+-- `list_record::confirm_hold` meets its contract: each way out is one of the cases of a hold's end (proofs/HoldingCases.antt). Assumes nothing.
+use Prim.Native.Nat.{ℕ, ◌+◌, ◌-◌, ◌≤◌}
+use mathlib.Core.Path.{◌≡◌, refl, sym, ap, ◌∙◌}
+use mathlib.Core.Bool.{Bool, false}
+use mathlib.Core.List.{[]}
+use native.Mathlib.Nat.{add-zero}
+use borrow.Author.Rules.{rules}
+use Rattle.words.specs.Answers.{done, declined}
+use Rattle.words.specs.Limits.{multiplicity_limit}
+use Rattle.words.specs.Outcomes.{Leaves}
+use Rattle.words.specs.declared.Judgement.TheVariants.{Fine, Declined}
+use Rattle.words.specs.declared.Refusal.{Refusal}
+use Rattle.words.proofs.Outcomes.{leaves_done, leaves_declined}
+use Rattle.list.specs.Lists.{multiplicity_at, count_full}
+use Rattle.list.specs.Holds.{HeldList, hold_at}
+use Rattle.list.proofs.JudgedLists.{count_within}
+use Rattle.list_record.specs.Recording.{settled}
+use Rattle.list_record.specs.Holding.{confirm_reason, confirm_all}
+use Rattle.list_record.proofs.HoldingCases.{confirm_without, confirm_full, confirm_fine, drop_room}
+use Rattle.list_record.proofs.confirm_hold.Goals as goal
+
+refused : (h : HeldList) (i : ℕ) {k : Refusal} → confirm_reason h i ≡ Declined k → Leaves (confirm_all h i) (declined k) h
+unfolding confirm_all
+refused h i e = leaves_declined [] h _ e
+
+confirmed : (h : HeldList) (i : ℕ) {left : HeldList} → confirm_reason h i ≡ Fine
+    → left ≡ settled h i (multiplicity_at h.list i + 1) (hold_at h i - 1) → Leaves (confirm_all h i) (done []) left
+unfolding confirm_all
+confirmed h i e q = leaves_done [] h _ e refl q
+
+-- the count was asked with no holds beside it
+one_more : (m : ℕ) {t : Bool} → count_full (m + 0 + 1) ≡ t → count_full (m + 1) ≡ t
+one_more m e = ap (λ (n : ℕ). count_full (n + 1)) (sym (add-zero m)) ∙ e
+
+rises : (m : ℕ) → count_full (m + 0 + 1) ≡ false → m + 1 ≤ multiplicity_limit
+rises m e = count_within _ (one_more m e)
+
+pub returns-in-Declined : goal.returns-in-Declined
+returns-in-Declined c = refused _ _ (confirm_without _ _ (sym c.judge_drop.ensures ∙ c.in-Declined.is))
+
+pub offset_bounds-multiplicities-position : goal.offset_bounds-multiplicities-position
+offset_bounds-multiplicities-position c =
+    let room = drop_room _ _ (sym c.judge_drop.ensures ∙ c.in_default.is) in
+    search rules
+
+pub bounds-multiplicities-position : goal.bounds-multiplicities-position
+bounds-multiplicities-position c =
+    let room = drop_room _ _ (sym c.judge_drop.ensures ∙ c.in_default.is) in
+    search rules
+
+pub returns-then-one_more_is_full : goal.returns-then-one_more_is_full
+unfolding multiplicity_at
+returns-then-one_more_is_full c =
+    refused _ _
+    (confirm_full _ _ (sym c.judge_drop.ensures ∙ c.in_default.is)
+    (one_more _ (sym c.one_more_is_full.ensures ∙ c.if-one_more_is_full.true)))
+
+pub offset_bounds-multiplicities-position-2 : goal.offset_bounds-multiplicities-position-2
+offset_bounds-multiplicities-position-2 c =
+    let room = drop_room _ _ (sym c.judge_drop.ensures ∙ c.in_default.is) in
+    search rules
+
+pub bounds-multiplicities-position-2 : goal.bounds-multiplicities-position-2
+bounds-multiplicities-position-2 c =
+    let room = drop_room _ _ (sym c.judge_drop.ensures ∙ c.in_default.is) in
+    search rules
+
+pub overflow_add-multiplicities : goal.overflow_add-multiplicities
+unfolding multiplicity_at hold_at
+overflow_add-multiplicities c =
+    let below = rises _ (sym c.one_more_is_full.ensures ∙ c.if-one_more_is_full.false) in
+    search rules
+
+pub bounds-multiplicities-position-3 : goal.bounds-multiplicities-position-3
+bounds-multiplicities-position-3 c =
+    let room = drop_room _ _ (sym c.judge_drop.ensures ∙ c.in_default.is) in
+    search rules
+
+pub offset_bounds-holds-position : goal.offset_bounds-holds-position
+offset_bounds-holds-position c =
+    let room = drop_room _ _ (sym c.judge_drop.ensures ∙ c.in_default.is) in
+    search rules
+
+pub overflow_sub-holds : goal.overflow_sub-holds
+unfolding multiplicity_at hold_at
+overflow_sub-holds c =
+    let room = drop_room _ _ (sym c.judge_drop.ensures ∙ c.in_default.is) in
+    search rules
+
+pub returns : goal.returns
+unfolding multiplicity_at hold_at
+returns c =
+    confirmed _ _
+    (confirm_fine _ _ (sym c.judge_drop.ensures ∙ c.in_default.is)
+    (one_more _ (sym c.one_more_is_full.ensures ∙ c.if-one_more_is_full.false)))
+    refl

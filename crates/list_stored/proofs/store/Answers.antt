@@ -1,0 +1,23 @@
+-- `list_stored::store` meets its contract: 11, then 7, and no byte is stored before both are asked; the height is the list's own, as it is
+-- required. Assumes nothing.
+use mathlib.Core.Path.{sym, ◌∙◌}
+use native.Mathlib.Omega.{arith}
+use borrow.Author.Rules.{rules}
+use Rattle.list_stored.proofs.Reasons.{store_repeat, store_short, store_fine, stored_refused, stored_done}
+use Rattle.list_stored.proofs.store.Goals as goal
+
+pub returns-then-has_repeats : goal.returns-then-has_repeats
+returns-then-has_repeats c = stored_refused _ _ _ (store_repeat _ _ (sym (c.has_repeats.ensures _ _) ∙ c.if-has_repeats.true))
+
+pub returns-then-out-length : goal.returns-then-out-length
+returns-then-out-length c =
+    stored_refused _ _ _
+    (store_short _ _ (sym (c.has_repeats.ensures _ _) ∙ c.if-has_repeats.false)
+    (let e = c.stored_length-length.ensures in let h = c.if-out-length.true in omega arith))
+
+pub returns : goal.returns
+returns c =
+    stored_done _ _ _ _ _ _
+    (store_fine _ _ (sym (c.has_repeats.ensures _ _) ∙ c.if-has_repeats.false) (let e = c.stored_length-length.ensures in let h = c.if-out-length.false in omega arith))
+    c.stored_length-length.ensures
+    c.requires.height_value c.put_list.ensures

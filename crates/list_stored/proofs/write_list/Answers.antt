@@ -1,0 +1,61 @@
+-- `list_stored::write_list` meets its contract: where `judge_held` gives a reason it is the answer; else the parts of the two arrays that are lent on
+-- are the list that is stored, so `store` does what is due for it. Assumes nothing.
+use mathlib.Core.Path.{refl, sym, ap, ◌∙◌}
+use native.Mathlib.Omega.{arith}
+use borrow.Author.Rules.{rules}
+use Rattle.list.specs.Heights.{list_height}
+use Rattle.list.specs.Holds.{section_list}
+use Rattle.list.proofs.HeldLists.{held_height, held_refused}
+use Rattle.list.proofs.CountedStores.{lent_few, counted_lent, lent_keys, lent_counts}
+use Rattle.list_stored.proofs.Reasons.{height_shaped, height_few, write_refused, write_stores}
+use Rattle.list_stored.proofs.write_list.Goals as goal
+
+pub overflow_mul-end : goal.overflow_mul-end
+overflow_mul-end c =
+    let few = height_few _ _ (sym c.in-Height.is ∙ c.judge_held.ensures) in
+    let fewer = lent_few _ c.counted-copy.ensures.value in
+    search rules
+
+pub slice_bounds-to_keys-end : goal.slice_bounds-to_keys-end
+slice_bounds-to_keys-end c =
+    let few = height_few _ _ (sym c.in-Height.is ∙ c.judge_held.ensures) in
+    let fewer = lent_few _ c.counted-copy.ensures.value in
+    search rules
+
+pub slice_bounds-store-end : goal.slice_bounds-store-end
+slice_bounds-store-end c =
+    lent_keys _ c.counted-copy.ensures.value _ c.counted-copy.ensures.to_keys_after refl (height_few _ _ (sym c.in-Height.is ∙ c.judge_held.ensures))
+
+pub slice_bounds-to_multiplicities-end : goal.slice_bounds-to_multiplicities-end
+slice_bounds-to_multiplicities-end c =
+    let few = height_few _ _ (sym c.in-Height.is ∙ c.judge_held.ensures) in
+    let fewer = lent_few _ c.counted-copy.ensures.value in
+    search rules
+
+pub slice_bounds-store-end-in-Height : goal.slice_bounds-store-end-in-Height
+slice_bounds-store-end-in-Height c =
+    lent_counts _ c.counted-copy.ensures.value _ c.counted-copy.ensures.to_multiplicities_after refl (height_few _ _ (sym c.in-Height.is ∙ c.judge_held.ensures))
+
+pub store-requires : goal.store-requires
+unfolding section_list
+store-requires c =
+    let answer = (sym c.in-Height.is ∙ c.judge_held.ensures) in
+    let few = height_few _ _ answer in
+    let fewer = lent_few _ c.counted-copy.ensures.value in
+    let keys = lent_keys _ c.counted-copy.ensures.value _ c.counted-copy.ensures.to_keys_after refl few in
+    let counts = lent_counts _ c.counted-copy.ensures.value _ c.counted-copy.ensures.to_multiplicities_after refl few in record {
+      used_le_max_places = (omega arith, omega arith, omega arith);
+      height_value = (held_height _ _ answer).1
+          ∙ ap list_height (sym (counted_lent _ c.counted-copy.ensures.value _ _ c.counted-copy.ensures.to_keys_after c.counted-copy.ensures.to_multiplicities_after refl refl few));
+    }
+
+pub returns-in-Refused : goal.returns-in-Refused
+returns-in-Refused c = write_refused _ _ (held_refused _ _ (sym c.in-Refused.is ∙ c.judge_held.ensures))
+
+pub returns-in-Height : goal.returns-in-Height
+unfolding section_list
+returns-in-Height c =
+    let answer = (sym c.in-Height.is ∙ c.judge_held.ensures) in
+    write_stores _ _ (held_height _ _ answer).0 _
+    (counted_lent _ c.counted-copy.ensures.value _ _ c.counted-copy.ensures.to_keys_after c.counted-copy.ensures.to_multiplicities_after refl refl (height_few _ _ answer))
+    c.store.ensures

@@ -1,0 +1,84 @@
+-- `lookup::find_limb` meets its contract: each way out is one of the cases of a place (proofs/LookupCases.antt). Assumes nothing.
+use Prim.Native.Nat.{ℕ}
+use mathlib.Core.Path.{◌≡◌, sym, ◌∙◌}
+use mathlib.Core.Bool.{true, false}
+use native.Mathlib.Omega.{arith}
+use lib.ListN.{length}
+use borrow.Author.Rules.{rules}
+use borrow.Author.Tests.{not-true, not-false, eq-eqb, ne_eqb}
+use Rattle.words.specs.Limits.{byte_rows}
+use Rattle.lookup.specs.Cascades.{Lookups, lookups, cascade_shape, bytes_shape, lookup_shape}
+use Rattle.lookup.proofs.LookupCases.{shaped, shape_declined, place_full, place_known, bytes_declined, place_new, no_place}
+use Rattle.lookup.proofs.find_limb.Goals as goal
+
+module _ (t : Lookups) where
+  wrong_cascade : cascade_shape t.values ≡ false → lookup_shape t ≡ false
+  wrong_cascade e = rw e
+
+  wrong_bytes : cascade_shape t.values ≡ true → (length t.byte_multiplicities ≡ byte_rows → ⊥) → lookup_shape t ≡ false
+  unfolding bytes_shape
+  wrong_bytes e n = rw (e, ne_eqb _ _ n)
+
+  right_shape : cascade_shape t.values ≡ true → length t.byte_multiplicities ≡ byte_rows → lookup_shape t ≡ true
+  unfolding bytes_shape
+  right_shape e n = rw (e, eq-eqb _ _ n)
+
+-- behind the two tests of the shape
+abbrev lent : tie.Else2 → Lookups
+lent c =
+    let args = c.before.before.before.before.before.before.args in
+    lookups args.sizes args.keys.now args.multiplicities.now args.byte-multiplicities.now
+
+cascade-right : (c : tie.Else2) → cascade_shape (lent c).values ≡ true
+cascade-right c = sym c.before.before.has-cascade-shape.ensures ∙ not-false _ c.before.if1.false
+
+right : (c : tie.Else2) → lookup_shape (lent c) ≡ true
+right c = right_shape _ (cascade-right c) c.if2.false
+
+pub returns-then-not-has_cascade_shape : goal.returns-then-not-has_cascade_shape
+returns-then-not-has_cascade_shape c = sym (shape_declined _ _ (wrong_cascade _ (sym c.has_cascade_shape.ensures ∙ not-true _ c.if-not-has_cascade_shape.true-raw)))
+
+pub returns-then-byte_multiplicities-ne-BYTE_ROWS : goal.returns-then-byte_multiplicities-ne-BYTE_ROWS
+returns-then-byte_multiplicities-ne-BYTE_ROWS c =
+    sym
+    (shape_declined _ _
+    (wrong_bytes _ (sym c.has_cascade_shape.ensures ∙ not-false _ c.if-not-has_cascade_shape.false-raw) c.if-byte_multiplicities-ne-BYTE_ROWS.true))
+
+pub find_value-at-requires : goal.find_value-at-requires
+find_value-at-requires c = let s = shaped _ (cascade-right c) in omega (arith, s.within, s.keys)
+
+pub offset_bounds-multiplicities-at : goal.offset_bounds-multiplicities-at
+offset_bounds-multiplicities-at c = let s = shaped _ (cascade-right c) in search rules
+
+pub bounds-multiplicities-at : goal.bounds-multiplicities-at
+bounds-multiplicities-at c = let s = shaped _ (cascade-right c) in omega (arith, s.within, s.multiplicities, c.if-at-used.true)
+
+pub returns-then-would_pass_limit : goal.returns-then-would_pass_limit
+returns-then-would_pass_limit c =
+    sym
+    (place_full _ _ (right c) _ c.find_value-at.ensures c.if-at-used.true
+    (sym c.would_pass_limit.ensures ∙ c.if-would_pass_limit.true))
+
+pub returns-then-at-used : goal.returns-then-at-used
+returns-then-at-used c =
+    sym
+    (place_known _ _ (right c) _ c.find_value-at.ensures c.if-at-used.true
+    (sym c.would_pass_limit.ensures ∙ c.if-would_pass_limit.false))
+
+pub returns-then-bytes_full : goal.returns-then-bytes_full
+returns-then-bytes_full c =
+    sym
+    (bytes_declined _ _ (right c) _ c.find_value-at.ensures c.if-at-used.false
+    (sym c.bytes_full.ensures ∙ c.if-bytes_full.true))
+
+pub returns-then-used-sizes : goal.returns-then-used-sizes
+returns-then-used-sizes c =
+    sym
+    (place_new _ _ (right c) _ c.find_value-at.ensures c.if-at-used.false
+    (sym c.bytes_full.ensures ∙ c.if-bytes_full.false) c.if-used-sizes.true)
+
+pub returns-else-used-sizes : goal.returns-else-used-sizes
+returns-else-used-sizes c =
+    sym
+    (no_place _ _ (right c) _ c.find_value-at.ensures c.if-at-used.false
+    (sym c.bytes_full.ensures ∙ c.if-bytes_full.false) c.if-used-sizes.false)

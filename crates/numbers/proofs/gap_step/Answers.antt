@@ -1,0 +1,9 @@
+-- `numbers::gap_step` meets its contract: within a number and not.
+use borrow.Author.Rules.{rules}
+use Rattle.numbers.proofs.gap_step.Goals as goal
+
+pub returns-then-place : goal.returns-then-place
+returns-then-place c = rw c.if-place.true
+
+pub returns : goal.returns
+returns c = rw c.if-place.false

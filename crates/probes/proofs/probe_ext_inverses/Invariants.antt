@@ -1,0 +1,17 @@
+-- What the loop of `probe_ext_inverses` keeps, and what falls with each turn.
+use borrow.Author.Rules.{rules}
+use Prim.Native.Nat.{ℕ, ◌+◌, ◌-◌, ◌*◌, ◌/◌, ◌≤◌, ◌<◌}
+use mathlib.Core.Path.{◌≡◌, refl, ◌∙◌}
+use native.Mathlib.Omega.{arith}
+use lib.ListN.{length}
+use Rattle.xfield.specs.Extension.{InverseOrZeroX}
+use Rattle.table.specs.Columns.{element_at}
+use Rattle.probes.proofs.Elements.{inverses_turn, ext_words_differ, not_whole, ext_inverses_fit_lem, ext_declines, ext_writes}
+use Rattle.probes.proofs.probe_ext_inverses.Given as goal
+
+abbrev pub invariant-loop-i : goal.invariant-loop-i
+invariant-loop-i l =
+    (length l.out ≡ length l.initial.out) × (l.i ≤ length l.words / 3) × ((k : ℕ) → k < l.i → InverseOrZeroX (element_at l.words k) (element_at l.out k))
+
+abbrev pub decreases-loop-i : goal.decreases-loop-i
+decreases-loop-i l = length l.words / 3 - l.i

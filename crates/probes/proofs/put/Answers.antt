@@ -1,0 +1,22 @@
+-- `probes::put` meets its contract: the three stores are the run of three words. Assumes nothing.
+use Prim.Native.Nat.{suc, ◌+◌, ◌*◌}
+use mathlib.Core.Path.{◌≡◌, refl}
+use native.Mathlib.Omega.{arith}
+use borrow.Author.Rules.{rules}
+use lib.ListN.{length-set}
+use Rattle.probes.specs.Probes.{words_of}
+use Rattle.probes.proofs.put.Goals as goal
+
+pub bounds-words-at-2 : goal.bounds-words-at-2
+bounds-words-at-2 c = simp length-set (omega arith)
+
+pub bounds-words-at-3 : goal.bounds-words-at-3
+bounds-words-at-3 c = simp length-set (omega arith)
+
+pub returns : goal.returns
+unfolding words_of
+returns c =
+    let at = 3 * c.args.k in
+    let second : at + 1 ≡ suc at = omega arith in
+    let third : at + 2 ≡ suc (suc at) = omega arith in
+    rw (second, third)

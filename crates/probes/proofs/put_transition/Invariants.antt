@@ -1,0 +1,19 @@
+-- What the loop of `put_transition` keeps, and what falls with each turn.
+use borrow.Author.Rules.{rules}
+use Prim.Native.Nat.{◌+◌, ◌-◌, ◌*◌, ◌≤◌}
+use mathlib.Core.Path.{◌≡◌, refl, ◌∙◌}
+use mathlib.Core.List.{map}
+use native.Mathlib.Omega.{arith}
+use lib.ListN.{length, take}
+use lib.Seq.{sets}
+use Rattle.xfield.specs.XFieldElements.{ext_of}
+use Rattle.probes.specs.Probes.{words_of}
+use Rattle.probes.proofs.Elements.{elements_turn, elements_stored}
+use Rattle.probes.proofs.put_transition.Given as goal
+
+abbrev pub invariant-loop-i : goal.invariant-loop-i
+invariant-loop-i l =
+    (length l.values ≡ length l.initial.values) × (l.i ≤ 22) × (l.values ≡ sets l.initial.values 48 (words_of (take l.i (map ext_of l.transition))))
+
+abbrev pub decreases-loop-i : goal.decreases-loop-i
+decreases-loop-i l = 22 - l.i

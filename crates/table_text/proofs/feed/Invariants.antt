@@ -1,0 +1,15 @@
+-- What the loop of `feed` keeps, and what falls with each turn.
+use borrow.Author.Rules.{rules}
+use Prim.Native.Nat.{◌-◌, ◌≤◌}
+use mathlib.Core.Path.{◌≡◌, refl, sym, ap, ◌∙◌}
+use lib.ListN.{length, drop}
+use Rattle.table_text.specs.TableText.{Fed, feed_all, Within, IsFed}
+use Rattle.table_text.proofs.Feeding.{feed_more, feed_ends}
+use Rattle.table_text.proofs.feed.Given as goal
+
+abbrev pub invariant-loop-i : goal.invariant-loop-i
+invariant-loop-i l =
+    (l.i ≤ length l.part) × (length l.words ≡ length l.initial.words) × Within l.reached × (feed_all l.initial.reached l.part l.initial.words ≡ feed_all l.reached (drop l.i l.part) l.words)
+
+abbrev pub decreases-loop-i : goal.decreases-loop-i
+decreases-loop-i l = length l.part - l.i

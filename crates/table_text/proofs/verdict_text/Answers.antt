@@ -1,0 +1,13 @@
+-- `table_text::verdict_text` meets its contract: a refusal is the text; else it is what the check leads to.
+use Rattle.table_text.proofs.Answering.{extension_refused, extension_made}
+use borrow.Author.Rules.{rules}
+use Rattle.table_text.proofs.verdict_text.Goals as goal
+
+pub returns-in-Refused : goal.returns-in-Refused
+returns-in-Refused c =
+    let told = c.reason-1.given in
+    extension_refused _ _ _ told.0.0 _ (rw told.1 at c.extend.ensures) c.put_reason.ensures
+
+pub returns-in-Sum : goal.returns-in-Sum
+returns-in-Sum c =
+    extension_made _ _ _ _ _ c.check.result (rw c.in-Sum.is at c.extend.ensures) c.check.ensures.exact c.put_verdict.ensures

@@ -1,0 +1,27 @@
+-- What the loop of `challenges_in` keeps, and what falls with each turn.
+use Prim.Native.Nat.{ℕ, ◌≤◌, ◌-◌, ◌*◌}
+use mathlib.Core.Path.{◌≡◌, refl, sym, ap, ◌∙◌}
+use mathlib.Core.List.{List, map}
+use borrow.Author.Rules.{rules}
+use lib.ListN.{length, length-set}
+use lib.Seq.{sets}
+use Rattle.words.specs.LittleEndian.{le_at}
+use Rattle.words.specs.Places.{places_from, places}
+use Rattle.words.proofs.Places.{map_turn, places_done}
+use Rattle.table.specs.Challenges.{challenge_words}
+use Rattle.transcript.specs.Transcript.{input_challenges}
+use Rattle.transcript.proofs.Steps.{fifteen}
+use Rattle.transcript.proofs.challenges_in.Given as goal
+
+-- the word at a place
+abbrev pub word_at : List ℕ → ℕ → ℕ
+word_at input i = le_at input (8 * i) 8
+
+abbrev pub invariant-loop-i : goal.invariant-loop-i
+invariant-loop-i l =
+    (l.i ≤ challenge_words) × (length l.challenges ≡ challenge_words)
+    × (sets l.initial.challenges 0 (map (word_at l.input) (places challenge_words))
+    ≡ sets l.challenges l.i (map (word_at l.input) (places_from l.i (challenge_words - l.i))))
+
+abbrev pub decreases-loop-i : goal.decreases-loop-i
+decreases-loop-i l = challenge_words - l.i
