@@ -1,11 +1,10 @@
 -- `XFieldElement::is_zero` meets its contract: `&&` stops at the first word that is not 0. Assumes nothing.
-use borrow.Author.Rules.{rules}
 use mathlib.Core.Path.{sym, ◌∙◌}
 use mathlib.Core.Bool.{true≢false}
-use mathlib.Core.Logic.{⊎_elim}
 use Rattle.field.specs.Elements.{is_zero_f}
 use Rattle.xfield.specs.Extension.{equal_x, is_zero_x}
 use Rattle.xfield.proofs.XFieldElement.is_zero.Goals as goal
+use Rattle.xfield.proofs.XFieldElement.is_zero.Goals.{then-is_zero, else-is_zero}
 
 -- the first two words are 0, and the third decides
 pub returns-then-is_zero-2 : goal.returns-then-is_zero-2
@@ -13,10 +12,11 @@ unfolding is_zero_x equal_x is_zero_f
 returns-then-is_zero-2 c =
     let passed = c.if-is_zero-2.true in
     let first = sym c.is_zero.ensures in
-    ⊎_elim
-    (λ w. simp (first ∙ w.0.taken, sym w.1.ensures ∙ sym w.2 ∙ passed) c.is_zero-then-is_zero-2.ensures)
-    (λ w. absurd (true≢false (sym passed ∙ w.1 ∙ w.0.left)))
-    c.if-is_zero.branch
+    elim c.if-is_zero.branch [
+      then-is_zero w ↦
+        simp (first ∙ w.if-is_zero.true, sym w.is_zero-then-is_zero.ensures ∙ sym w.value-is ∙ passed) c.is_zero-then-is_zero-2.ensures
+    | else-is_zero w ↦ absurd (true≢false (sym passed ∙ w.value-is ∙ w.if-is_zero.false))
+    ]
 
 -- the second or the first word is not 0
 pub returns-else-is_zero-2 : goal.returns-else-is_zero-2
@@ -24,7 +24,7 @@ unfolding is_zero_x equal_x is_zero_f
 returns-else-is_zero-2 c =
     let differed = c.if-is_zero-2.false in
     let first = sym c.is_zero.ensures in
-    ⊎_elim
-    (λ w. simp (first ∙ w.0.taken, sym w.1.ensures ∙ sym w.2 ∙ differed) differed)
-    (λ w. simp (first ∙ w.0.left) differed)
-    c.if-is_zero.branch
+    elim c.if-is_zero.branch [
+      then-is_zero w ↦ simp (first ∙ w.if-is_zero.true, sym w.is_zero-then-is_zero.ensures ∙ sym w.value-is ∙ differed) differed
+    | else-is_zero w ↦ simp (first ∙ w.if-is_zero.false) differed
+    ]

@@ -1,6 +1,5 @@
 -- `XFieldElement::mul` meets its contract: what the calls ensure, put into one another, is the definition's formula.
 -- Assumes nothing.
-use borrow.Author.Rules.{rules}
 use mathlib.Core.Path.{◌∙◌, ap₂}
 use Rattle.field.specs.Elements.{add_f, sub_f}
 use Rattle.xfield.specs.Extension.{mul_x}

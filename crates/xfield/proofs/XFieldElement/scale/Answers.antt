@@ -1,5 +1,4 @@
 -- `XFieldElement::scale` meets its contract, word by word. Assumes nothing.
-use borrow.Author.Rules.{rules}
 use Rattle.xfield.specs.Extension.{scale_x}
 use Rattle.xfield.proofs.RingLawsX.{ext_path}
 use Rattle.xfield.proofs.XFieldElement.scale.Goals as goal
