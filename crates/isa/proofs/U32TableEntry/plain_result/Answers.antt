@@ -62,5 +62,5 @@ returns-in-28 c = sym (counted _ _ c.in-28.is)
 
 pub returns-in_default : goal.returns-in_default
 returns-in_default c =
-    let rest = c.in_default.rest in
+    let rest = c.in_default.in_default-own.rest in
     sym (none _ _ rest.0.0.0.0.1 rest.0.0.0.1 rest.0.0.1 rest.0.1 rest.1)
