@@ -37,19 +37,19 @@ module _ (out : List ℕ) (at width n k : ℕ) (is : k ≡ length (decimal n)) (
 
 pub put_spaces-next-requires : goal.put_spaces-next-requires
 put_spaces-next-requires c =
-    let made = c.decimal-k.ensures.1 in
-    room_spaces c.args.out.now c.args.at c.args.width c.args.n _ (count_is c.args.n _ (search rules) made.0) c.requires
+    let made = c.decimal-k.ensures in
+    room_spaces c.args.out.now c.args.at c.args.width c.args.n _ (count_is c.args.n _ (search rules) made.len) c.requires
 
 pub put_bytes-requires : goal.put_bytes-requires
 put_bytes-requires c =
-    let made = c.decimal-k.ensures.1 in
+    let made = c.decimal-k.ensures in
     let number = c.args.n in
-    let is = count_is number _ (search rules) made.0 in
-    room_digits c.args.out.now c.args.at c.args.width number _ is c.requires c.put_spaces-next.ensures (made.1 ∙ decimal_made number _ (search rules) made.0)
+    let is = count_is number _ (search rules) made.len in
+    room_digits c.args.out.now c.args.at c.args.width number _ is c.requires c.put_spaces-next.ensures (made.digits ∙ decimal_made number _ (search rules) made.len)
 
 pub returns : goal.returns
 returns c =
-    let made = c.decimal-k.ensures.1 in
+    let made = c.decimal-k.ensures in
     let number = c.args.n in
-    let is = count_is number _ (search rules) made.0 in
-    column_put c.args.out.now c.args.at c.args.width number _ is c.requires c.put_spaces-next.ensures (made.1 ∙ decimal_made number _ (search rules) made.0) c.put_bytes.ensures
+    let is = count_is number _ (search rules) made.len in
+    column_put c.args.out.now c.args.at c.args.width number _ is c.requires c.put_spaces-next.ensures (made.digits ∙ decimal_made number _ (search rules) made.len) c.put_bytes.ensures

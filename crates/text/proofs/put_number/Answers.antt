@@ -9,12 +9,12 @@ use Rattle.text.proofs.put_number.Goals as goal
 
 pub put_bytes-requires : goal.put_bytes-requires
 put_bytes-requires c =
-    let made = c.decimal-k.ensures.1 in
-    let e = made.1 ∙ decimal_made c.args.n _ (search rules) made.0 in
+    let made = c.decimal-k.ensures in
+    let e = made.digits ∙ decimal_made c.args.n _ (search rules) made.len in
     omega (arith, ap length e)
 
 pub returns : goal.returns
 returns c =
-    let made = c.decimal-k.ensures.1 in
-    let e = made.1 ∙ decimal_made c.args.n _ (search rules) made.0 in
+    let made = c.decimal-k.ensures in
+    let e = made.digits ∙ decimal_made c.args.n _ (search rules) made.len in
     rw e at c.put_bytes.ensures
