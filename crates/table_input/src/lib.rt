@@ -44,12 +44,12 @@ fn unless_over(stage: Stage) -> Fed
 }
 
 // Reads a part of the text.
-fn feed_part(stage: Stage, words: &mut [u64]) -> Fed
+fn feed_part(rt: &HostRuntime, stage: Stage, words: &mut [u64]) -> Fed
     requires { (max_words ≤ length words.old) × Within stage }
     ensures { FedWithin result }
 {
     let mut part = io::large_buffer();
-    match streams::read_full(&mut part) {
+    match streams::read_full(rt, &mut part) {
         Filled::Failed => Fed::Failed,
         Filled::Bytes(n) => {
             let fed = table_text::feed(stage, &part[..n], words);
@@ -62,7 +62,7 @@ fn feed_part(stage: Stage, words: &mut [u64]) -> Fed
 }
 
 // Reads the whole text.
-pub fn read_text(words: &mut [u64]) -> Whole
+pub fn read_text(rt: &HostRuntime, words: &mut [u64]) -> Whole
     requires { max_words ≤ length words.old }
     ensures { ReadWithin result }
 {
@@ -70,7 +70,7 @@ pub fn read_text(words: &mut [u64]) -> Whole
     let mut parts = MOST_PARTS;
     while 0 < parts {
         parts -= 1;
-        let fed = feed_part(stage, words);
+        let fed = feed_part(rt, stage, words);
         match fed {
             Fed::More(next) => stage = next,
             Fed::Last(last) => return Whole::Text(last),

@@ -42,12 +42,12 @@ fn unless_over(stage: Stage) -> Fed
 }
 
 // Reads a part of the text.
-fn feed_part(stage: Stage, words: &mut [u64]) -> Fed
+fn feed_part(rt: &HostRuntime, stage: Stage, words: &mut [u64]) -> Fed
     requires { (max_words ≤ length words.old) × Within stage }
     ensures { FedWithin result }
 {
     let mut part = io::large_buffer();
-    match streams::read_full(&mut part) {
+    match streams::read_full(rt, &mut part) {
         Filled::Failed => Fed::Failed,
         Filled::Bytes(n) => {
             let fed = batch_text::feed(stage, &part[..n], words);
@@ -60,7 +60,7 @@ fn feed_part(stage: Stage, words: &mut [u64]) -> Fed
 }
 
 // Reads the whole text.
-fn read_text(words: &mut [u64]) -> Whole
+fn read_text(rt: &HostRuntime, words: &mut [u64]) -> Whole
     requires { max_words ≤ length words.old }
     ensures { ReadWithin result }
 {
@@ -68,7 +68,7 @@ fn read_text(words: &mut [u64]) -> Whole
     let mut parts = MOST_PARTS;
     while 0 < parts {
         parts -= 1;
-        let fed = feed_part(stage, words);
+        let fed = feed_part(rt, stage, words);
         match fed {
             Fed::More(next) => stage = next,
             Fed::Last(last) => return Whole::Text(last),
@@ -79,21 +79,21 @@ fn read_text(words: &mut [u64]) -> Whole
 }
 
 // Reads, tries each setting, and writes the table.
-fn run(words: &mut [u64])
+fn run(rt: &HostRuntime, words: &mut [u64])
     requires { max_words ≤ length words.old }
 {
     let mut out = [0u8; 8192];
-    match read_text(words) {
+    match read_text(rt, words) {
         Whole::Failed => {}
         Whole::Text(stage) => {
             let length = batch_text::put_answer(stage, words, &mut out);
-            streams::write_all(&out[..length]);
+            streams::write_all(rt, &out[..length]);
         }
     }
 }
 
 // 16 settings and 65,536 jobs.
-fn main() {
+fn main(rt: HostRuntime) {
     let mut words = [0u64; 65552];
-    run(&mut words);
+    run(&rt, &mut words);
 }

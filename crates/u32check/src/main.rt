@@ -8,21 +8,21 @@ ghost use Rattle.table_text.specs.TableText.{max_words};
 use table_input::Whole;
 
 // Reads, sums and checks, and writes the answer.
-fn run(words: &mut [u64])
+fn run(rt: &HostRuntime, words: &mut [u64])
     requires { max_words ≤ length words.old }
 {
     let mut out = [0u8; 256];
-    match table_input::read_text(words) {
+    match table_input::read_text(rt, words) {
         Whole::Failed => {}
         Whole::Text(stage) => {
             let length = table_text::put_answer(stage, words, &mut out);
-            streams::write_all(&out[..length]);
+            streams::write_all(rt, &out[..length]);
         }
     }
 }
 
 // 16 numbers and ten for each of 16,384 rows.
-fn main() {
+fn main(rt: HostRuntime) {
     let mut words = numbers::room();
-    run(&mut words);
+    run(&rt, &mut words);
 }

@@ -6,12 +6,12 @@ use streams::Filled;
 use transcript::Transcribed;
 
 // Reads standard input to its end, or to one byte more than is admitted, and writes the text.
-fn main() {
+fn main(rt: HostRuntime) {
     let mut input = transcript::input_room();
     let mut out = transcript::room();
-    if let Filled::Bytes(n) = streams::read_full(&mut input) {
+    if let Filled::Bytes(n) = streams::read_full(&rt, &mut input) {
         if let Transcribed::Length(length) = transcript::transcript(&input[..n], &mut out) {
-            streams::write_all(&out[..length]);
+            streams::write_all(&rt, &out[..length]);
         }
     }
 }

@@ -3,10 +3,11 @@
 #![tactic(auto)]
 
 ghost use Rattle.std.specs.Prelude.{◌≡◌, ◌≤◌, length};
+ghost use Rattle.io.specs.Counts.{IsPrefixLen};
 ghost use Rattle.vectors.specs.Same.{same_first};
 ghost use Rattle.vectors.specs.Counts.{counted, answered, tallied};
 
-use libc::{STDIN_FILENO, STDOUT_FILENO};
+use std::io::Read;
 
 // A number, and the place after it. Where there is none left, the value is 0 and the place the text's length.
 #[derive(Clone, Copy)]
@@ -174,12 +175,39 @@ fn to_front(text: &mut [u8], from: usize, count: usize) {
     }
 }
 
+// One read of what follows the bytes that are there. Answers how many bytes are there then.
+fn read_more(rt: &HostRuntime, buf: &mut [u8], done: usize) -> usize
+    requires { done ≤ length buf.old }
+    ensures low { done ≤ result }
+    ensures high { result ≤ length buf.new }
+{
+    match rt.stdin().read(&mut buf[done..]) {
+        Ok(n) => done + n,
+        Err(_) => done,
+    }
+}
+
+// Reads standard input until the buffer is full, the input ends or a read fails, and answers how many bytes it put at the start of the buffer.
+pub fn read_full(rt: &HostRuntime, buf: &mut [u8]) -> usize
+    ensures { IsPrefixLen result buf.new }
+{
+    let mut done: usize = 0;
+    while done < buf.len() {
+        let next = read_more(rt, buf, done);
+        if next == done {
+            break;
+        }
+        done = next;
+    }
+    done
+}
+
 // Of the `filled` bytes that a buffer holds the first `done` are dropped, the others go to the front, and standard input is read behind them
 // until the buffer is full or the input ends. Answers how many bytes the buffer holds then.
-pub fn refill(text: &mut [u8], filled: usize, done: usize) -> usize {
+pub fn refill(rt: &HostRuntime, text: &mut [u8], filled: usize, done: usize) -> usize {
     let kept = left(filled, done, text.len());
     to_front(text, done, kept);
-    let more = io::read_full(STDIN_FILENO, &mut text[kept..]);
+    let more = read_full(rt, &mut text[kept..]);
     std::num::wrapping_add_u64(kept as u64, more as u64) as usize
 }
 
@@ -307,31 +335,35 @@ pub fn tally(counts: &mut [u64; COUNTS], kind: usize, number: u64, same: bool)
 }
 
 // Writes a kind's counts: the calls that were done, those refused with each number that was met, and those that differ.
-pub fn print_tally(name: &[u8], counts: &[u64; COUNTS], kind: usize) {
+pub fn print_tally(rt: &HostRuntime, name: &[u8], counts: &[u64; COUNTS], kind: usize) {
     if kind < KINDS {
         let from = kind * PLACES;
-        print_text(name);
-        print_count(b" done", counts[from]);
+        print_text(rt, name);
+        print_count(rt, b" done", counts[from]);
         let mut n: usize = 1;
         while n < DIFFER {
             if 0 < counts[from + n] {
-                print_count(b" refused", n as u64);
-                print_count(b":", counts[from + n]);
+                print_count(rt, b" refused", n as u64);
+                print_count(rt, b":", counts[from + n]);
             }
             n += 1;
         }
-        print_count(b" differ", counts[from + DIFFER]);
-        print_text(b"\n");
+        print_count(rt, b" differ", counts[from + DIFFER]);
+        print_text(rt, b"\n");
     }
 }
 
 // Writes a name, a space and a number.
-pub fn print_count(name: &[u8], n: u64) {
-    io::write_all(STDOUT_FILENO, name);
-    io::write_all(STDOUT_FILENO, b" ");
-    io::print_decimal(STDOUT_FILENO, n);
+pub fn print_count(rt: &HostRuntime, name: &[u8], n: u64) {
+    print_text(rt, name);
+    print_text(rt, b" ");
+    print_number(rt, n);
 }
 
-pub fn print_text(text: &[u8]) {
-    io::write_all(STDOUT_FILENO, text);
+pub fn print_number(rt: &HostRuntime, n: u64) {
+    let _ = rt.print(n);
+}
+
+pub fn print_text(rt: &HostRuntime, text: &[u8]) {
+    let _ = rt.write_all(text);
 }

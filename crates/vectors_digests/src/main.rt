@@ -4,7 +4,7 @@
 
 use field::BFieldElement;
 use table::{AuxRow, Challenges, MainRow};
-use vectors::{print_count, print_text};
+use vectors::{print_count, print_number, print_text};
 use xfield::XFieldElement;
 
 // The digests of the constraints so far, and how many values of each were zero.
@@ -155,16 +155,16 @@ fn note_pair(
 }
 
 // ---- printing
-fn print_group(digests: Digests, group: u64, from: usize, count: usize) {
+fn print_group(rt: &HostRuntime, digests: Digests, group: u64, from: usize, count: usize) {
     let mut i: usize = 0;
     while i < count {
         if i < 40 {
             if from < 40 - i {
-                io::print_decimal(libc::STDOUT_FILENO, group);
-                print_count(b"", i as u64);
-                print_count(b"", digests.folds[from + i]);
-                print_count(b"", digests.zeros[from + i]);
-                print_text(b"\n");
+                print_number(rt, group);
+                print_count(rt, b"", i as u64);
+                print_count(rt, b"", digests.folds[from + i]);
+                print_count(rt, b"", digests.zeros[from + i]);
+                print_text(rt, b"\n");
             }
         }
         i += 1;
@@ -226,10 +226,10 @@ fn note_words(
     )
 }
 
-fn main() {
+fn main(rt: HostRuntime) {
     let digests = run();
-    print_group(digests, 0, 0, 1);
-    print_group(digests, 1, 1, 15);
-    print_group(digests, 2, 16, 22);
-    print_group(digests, 3, 38, 2);
+    print_group(&rt, digests, 0, 0, 1);
+    print_group(&rt, digests, 1, 1, 15);
+    print_group(&rt, digests, 2, 16, 22);
+    print_group(&rt, digests, 3, 38, 2);
 }

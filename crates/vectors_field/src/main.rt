@@ -4,7 +4,6 @@
 #![tactic(auto)]
 
 use field::BFieldElement;
-use libc::STDIN_FILENO;
 use vectors::{print_count, print_tally, print_text, same_words, tally};
 use xfield::XFieldElement;
 
@@ -121,38 +120,38 @@ fn run(text: &[u8], counts: &mut [u64; vectors::COUNTS]) {
     }
 }
 
-fn print_base(counts: &[u64; vectors::COUNTS]) {
-    print_tally(b"new", counts, 0);
-    print_tally(b"value", counts, 1);
-    print_tally(b"add", counts, 2);
-    print_tally(b"sub", counts, 3);
-    print_tally(b"neg", counts, 4);
-    print_tally(b"mul", counts, 5);
-    print_tally(b"inverse_or_zero", counts, 6);
-    print_tally(b"is_zero", counts, 7);
-    print_tally(b"equals", counts, 8);
+fn print_base(rt: &HostRuntime, counts: &[u64; vectors::COUNTS]) {
+    print_tally(rt, b"new", counts, 0);
+    print_tally(rt, b"value", counts, 1);
+    print_tally(rt, b"add", counts, 2);
+    print_tally(rt, b"sub", counts, 3);
+    print_tally(rt, b"neg", counts, 4);
+    print_tally(rt, b"mul", counts, 5);
+    print_tally(rt, b"inverse_or_zero", counts, 6);
+    print_tally(rt, b"is_zero", counts, 7);
+    print_tally(rt, b"equals", counts, 8);
 }
 
-fn print_extension(counts: &[u64; vectors::COUNTS]) {
-    print_tally(b"extension new", counts, 9);
-    print_tally(b"extension from_base", counts, 10);
-    print_tally(b"extension add", counts, 11);
-    print_tally(b"extension sub", counts, 12);
-    print_tally(b"extension mul", counts, 13);
-    print_tally(b"extension scale", counts, 14);
-    print_tally(b"extension inverse_or_zero", counts, 15);
-    print_tally(b"extension is_zero", counts, 16);
-    print_tally(b"extension equals", counts, 17);
+fn print_extension(rt: &HostRuntime, counts: &[u64; vectors::COUNTS]) {
+    print_tally(rt, b"extension new", counts, 9);
+    print_tally(rt, b"extension from_base", counts, 10);
+    print_tally(rt, b"extension add", counts, 11);
+    print_tally(rt, b"extension sub", counts, 12);
+    print_tally(rt, b"extension mul", counts, 13);
+    print_tally(rt, b"extension scale", counts, 14);
+    print_tally(rt, b"extension inverse_or_zero", counts, 15);
+    print_tally(rt, b"extension is_zero", counts, 16);
+    print_tally(rt, b"extension equals", counts, 17);
 }
 
 // X * X * X, which is X - 1.
-fn print_cube() {
+fn print_cube(rt: &HostRuntime) {
     let x = element(0, 1, 0);
     let cube = x.mul(x).mul(x);
-    print_count(b"X*X*X", cube.0.0);
-    print_count(b"", cube.1.0);
-    print_count(b"", cube.2.0);
-    print_text(b"\n");
+    print_count(rt, b"X*X*X", cube.0.0);
+    print_count(rt, b"", cube.1.0);
+    print_count(rt, b"", cube.2.0);
+    print_text(rt, b"\n");
 }
 
 fn run_changed(text: &mut [u8], counts: &mut [u64; vectors::COUNTS]) {
@@ -160,20 +159,21 @@ fn run_changed(text: &mut [u8], counts: &mut [u64; vectors::COUNTS]) {
     run(text, counts);
 }
 
-fn main() {
+fn main(rt: HostRuntime) {
     let mut text = [0u8; 131072];
-    let n = io::read_full(STDIN_FILENO, &mut text);
+    let n = vectors::read_full(&rt, &mut text);
     let mut counts = [0u64; vectors::COUNTS];
     run(&text[..n], &mut counts);
     let mut changed = [0u64; vectors::COUNTS];
     run_changed(vectors::byte_part_mut(&mut text, n), &mut changed);
-    print_base(&counts);
-    print_extension(&counts);
-    print_tally(b"with the last word changed, equals", &changed, 8);
+    print_base(&rt, &counts);
+    print_extension(&rt, &counts);
+    print_tally(&rt, b"with the last word changed, equals", &changed, 8);
     print_tally(
+        &rt,
         b"with the last word changed, extension equals",
         &changed,
         17,
     );
-    print_cube();
+    print_cube(&rt);
 }

@@ -440,6 +440,7 @@ fn run_changed(text: &mut [u8], counts: &mut [u64; vectors::COUNTS]) {
 
 // Runs the whole lines that the buffer holds, as they are and changed, and reads on; answers how many bytes the buffer holds then.
 fn run_part(
+    rt: &HostRuntime,
     text: &mut [u8],
     filled: usize,
     counts: &mut [u64; vectors::COUNTS],
@@ -448,46 +449,47 @@ fn run_part(
     let lines = vectors::whole_lines(byte_part(text, filled));
     run(byte_part(text, lines), counts);
     run_changed(byte_part_mut(text, lines), changed);
-    vectors::refill(text, filled, lines)
+    vectors::refill(rt, text, filled, lines)
 }
 
 // Runs the lines of standard input, a part after the other. Answers how many bytes are left at the end: none, but where a line does not end, a
 // line is longer than the buffer, or there are more than a thousand parts.
 fn run_input(
+    rt: &HostRuntime,
     text: &mut [u8],
     counts: &mut [u64; vectors::COUNTS],
     changed: &mut [u64; vectors::COUNTS],
 ) -> usize {
-    let mut filled = vectors::refill(text, 0, 0);
+    let mut filled = vectors::refill(rt, text, 0, 0);
     let mut parts: usize = 0;
     while parts < 1000 {
         if filled == 0 {
             return filled;
         }
-        filled = run_part(text, filled, counts, changed);
+        filled = run_part(rt, text, filled, counts, changed);
         parts += 1;
     }
     filled
 }
 
-fn main() {
+fn main(rt: HostRuntime) {
     let mut text = io::large_buffer();
     let mut counts = [0u64; vectors::COUNTS];
     let mut changed = [0u64; vectors::COUNTS];
-    let left = run_input(&mut text, &mut counts, &mut changed);
+    let left = run_input(&rt, &mut text, &mut counts, &mut changed);
     places(&mut counts);
     too_many_places(&mut counts);
-    print_tally(b"record", &counts, 1);
-    print_tally(b"compare", &counts, 2);
-    print_tally(b"plan", &counts, 3);
-    print_tally(b"read", &counts, 4);
-    print_tally(b"write", &counts, 5);
-    print_tally(b"record at 2048 and 2049 places", &counts, 6);
-    print_tally(b"with the last number changed, record", &changed, 1);
-    print_tally(b"with the last number changed, compare", &changed, 2);
-    print_tally(b"with the last number changed, plan", &changed, 3);
-    print_tally(b"with the last number changed, read", &changed, 4);
-    print_tally(b"with the last number changed, write", &changed, 5);
-    print_count(b"bytes not run", left as u64);
-    print_text(b"\n");
+    print_tally(&rt, b"record", &counts, 1);
+    print_tally(&rt, b"compare", &counts, 2);
+    print_tally(&rt, b"plan", &counts, 3);
+    print_tally(&rt, b"read", &counts, 4);
+    print_tally(&rt, b"write", &counts, 5);
+    print_tally(&rt, b"record at 2048 and 2049 places", &counts, 6);
+    print_tally(&rt, b"with the last number changed, record", &changed, 1);
+    print_tally(&rt, b"with the last number changed, compare", &changed, 2);
+    print_tally(&rt, b"with the last number changed, plan", &changed, 3);
+    print_tally(&rt, b"with the last number changed, read", &changed, 4);
+    print_tally(&rt, b"with the last number changed, write", &changed, 5);
+    print_count(&rt, b"bytes not run", left as u64);
+    print_text(&rt, b"\n");
 }

@@ -258,6 +258,7 @@ fn run_changed(text: &mut [u8], counts: &mut [u64; vectors::COUNTS]) {
 
 // Runs the whole lines that the buffer holds, as they are and changed, and reads on; answers how many bytes the buffer holds then.
 fn run_part(
+    rt: &HostRuntime,
     text: &mut [u8],
     filled: usize,
     counts: &mut [u64; vectors::COUNTS],
@@ -266,41 +267,42 @@ fn run_part(
     let lines = vectors::whole_lines(byte_part(text, filled));
     run(byte_part(text, lines), counts);
     run_changed(byte_part_mut(text, lines), changed);
-    vectors::refill(text, filled, lines)
+    vectors::refill(rt, text, filled, lines)
 }
 
 // Runs the lines of standard input, a part after the other. Answers how many bytes are left at the end: none, but where a line does not end, a
 // line is longer than the buffer, or there are more than a thousand parts.
 fn run_input(
+    rt: &HostRuntime,
     text: &mut [u8],
     counts: &mut [u64; vectors::COUNTS],
     changed: &mut [u64; vectors::COUNTS],
 ) -> usize {
-    let mut filled = vectors::refill(text, 0, 0);
+    let mut filled = vectors::refill(rt, text, 0, 0);
     let mut parts: usize = 0;
     while parts < 1000 {
         if filled == 0 {
             return filled;
         }
-        filled = run_part(text, filled, counts, changed);
+        filled = run_part(rt, text, filled, counts, changed);
         parts += 1;
     }
     filled
 }
 
-fn main() {
+fn main(rt: HostRuntime) {
     let mut text = io::large_buffer();
     let mut counts = [0u64; vectors::COUNTS];
     let mut changed = [0u64; vectors::COUNTS];
-    let left = run_input(&mut text, &mut counts, &mut changed);
-    print_tally(b"fill", &counts, 1);
-    print_tally(b"pad", &counts, 2);
-    print_tally(b"extend", &counts, 3);
-    print_tally(b"run", &counts, 4);
-    print_tally(b"with the last number changed, fill", &changed, 1);
-    print_tally(b"with the last number changed, pad", &changed, 2);
-    print_tally(b"with the last number changed, extend", &changed, 3);
-    print_tally(b"with the last number changed, run", &changed, 4);
-    print_count(b"bytes not run", left as u64);
-    print_text(b"\n");
+    let left = run_input(&rt, &mut text, &mut counts, &mut changed);
+    print_tally(&rt, b"fill", &counts, 1);
+    print_tally(&rt, b"pad", &counts, 2);
+    print_tally(&rt, b"extend", &counts, 3);
+    print_tally(&rt, b"run", &counts, 4);
+    print_tally(&rt, b"with the last number changed, fill", &changed, 1);
+    print_tally(&rt, b"with the last number changed, pad", &changed, 2);
+    print_tally(&rt, b"with the last number changed, extend", &changed, 3);
+    print_tally(&rt, b"with the last number changed, run", &changed, 4);
+    print_count(&rt, b"bytes not run", left as u64);
+    print_text(&rt, b"\n");
 }

@@ -134,37 +134,42 @@ fn run_case(file: &[u8], counts: &mut [u64; vectors::COUNTS]) {
 }
 
 // Runs the first of the cases that the buffer holds, where it is whole, and reads on; answers how many bytes the buffer holds then.
-fn run_first(file: &mut [u8], filled: usize, counts: &mut [u64; vectors::COUNTS]) -> usize {
+fn run_first(
+    rt: &HostRuntime,
+    file: &mut [u8],
+    filled: usize,
+    counts: &mut [u64; vectors::COUNTS],
+) -> usize {
     let end = case_end(byte_part(file, filled));
     if filled < end {
         return filled;
     }
     run_case(byte_part(file, filled), counts);
-    vectors::refill(file, filled, end)
+    vectors::refill(rt, file, filled, end)
 }
 
 // Runs the cases of standard input, one after the other. Answers how many bytes are left at the end: none, but where a case is not whole, a case is
 // longer than the buffer, or there are more than a thousand cases.
-fn run_input(file: &mut [u8], counts: &mut [u64; vectors::COUNTS]) -> usize {
-    let mut filled = vectors::refill(file, 0, 0);
+fn run_input(rt: &HostRuntime, file: &mut [u8], counts: &mut [u64; vectors::COUNTS]) -> usize {
+    let mut filled = vectors::refill(rt, file, 0, 0);
     let mut cases: usize = 0;
     while cases < 1000 {
         if filled == 0 {
             return filled;
         }
-        filled = run_first(file, filled, counts);
+        filled = run_first(rt, file, filled, counts);
         cases += 1;
     }
     filled
 }
 
-fn main() {
+fn main(rt: HostRuntime) {
     let mut file = io::large_buffer();
     let mut counts = [0u64; vectors::COUNTS];
-    let left = run_input(&mut file, &mut counts);
-    vectors::print_tally(b"text", &counts, 1);
-    vectors::print_tally(b"output a byte short", &counts, 2);
-    vectors::print_tally(b"text a byte later", &counts, 3);
-    vectors::print_count(b"bytes not run", left as u64);
-    vectors::print_text(b"\n");
+    let left = run_input(&rt, &mut file, &mut counts);
+    vectors::print_tally(&rt, b"text", &counts, 1);
+    vectors::print_tally(&rt, b"output a byte short", &counts, 2);
+    vectors::print_tally(&rt, b"text a byte later", &counts, 3);
+    vectors::print_count(&rt, b"bytes not run", left as u64);
+    vectors::print_text(&rt, b"\n");
 }
