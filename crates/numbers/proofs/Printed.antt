@@ -113,6 +113,7 @@ lines_read_from : (p : Place) (lines : List (List ℕ)) → p.inside ≡ false �
     → read_from p (printed lines) ≡ numbers (numbers_of lines)
 unfolding read_from printed numbers_of
 lines_read_from p [] i z no_line = rw i
+lines_read_from p ([] ∷ lines) i z x = elim x [ ]
 lines_read_from p ((w ∷ ws) ∷ lines) i z (one_line t r) =
     line_read p w ws (printed lines) z t ∙ rw (lines_read_from (after_line (line_of_next p)) lines refl refl r) (before_numbers (w ∷ ws) (numbers_of lines))
 
