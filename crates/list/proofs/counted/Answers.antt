@@ -52,7 +52,7 @@ loop-place-preserved c =
       search rules,
       λ s.
           stored_more (c.loop-place.invariant.1 s) c.if-multiplicity-eq0.false
-          (c.put_key.ensures ∙ ap (λ (k : U32TableEntry). sets c.loop-place.to-keys (entry_width * c.loop-place.n) (entry_words k)) (c.key_at.ensures s _)) refl,
+          (c.put_key.ensures ∙ ap (λ (k : U32TableEntry). sets c.loop-place.to_keys (entry_width * c.loop-place.n) (entry_words k)) (c.key_at.ensures s _)) refl,
     )
 
 pub shape_of-to_keys : goal.shape_of-to_keys
@@ -63,9 +63,9 @@ shape_of-to_multiplicities c = stored_long_counts (c.loop-place.invariant.1 any)
 
 pub returns : goal.returns
 returns c =
-    let stored = c.loop-place.invariant.1 c.args.sizes in let all =
-    (stored_sizes stored (search rules), (stored_keys stored (search rules), stored_counts stored (search rules))) in record {
-      value = all.0;
-      to_keys_after = all.1.0;
-      to_multiplicities_after = all.1.1;
+    let stored = c.loop-place.invariant.1 c.args.sizes in
+    record {
+      value = stored_sizes stored (search rules);
+      to_keys_after = stored_keys stored (search rules);
+      to_multiplicities_after = stored_counts stored (search rules);
     }

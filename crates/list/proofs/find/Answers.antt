@@ -6,7 +6,6 @@ use mathlib.Core.List.{List}
 use native.Mathlib.Omega.{arith}
 use native.Mathlib.Numerals.{unary_clauses}
 use borrow.Author.Rules.{rules}
-use borrow.Author.Tests.{not-false}
 use Rattle.isa.specs.declared.U32TableEntry.{U32TableEntry}
 use Rattle.isa.specs.Entries.{lhs}
 use Rattle.list.specs.declared.Sizes.{Sizes}
@@ -31,7 +30,7 @@ loop-eight-preserved c =
       omega arith,
       λ s ms. c.loop-eight.invariant.1 s ms
           ∙ find_eight _ _ (λ j. (c.type_inv.keys j).fits) (8 * c.loop-eight.eight) (8 * (c.loop-eight.eight + 1)) _ (omega arith) (omega arith)
-          (differ _ _ _ c.other_word-other.ensures (c.do_eight_differ_from_both.ensures (not-false _ c.if-not-do_eight_differ_from_both.false-raw))),
+          (differ _ _ _ c.other_word-other.ensures (c.do_eight_differ_from_both.ensures c.if-not-do_eight_differ_from_both.false)),
     )
 
 pub loop-i-init : goal.loop-i-init

@@ -6,16 +6,13 @@ use Rattle.list.specs.Holds.{section_list}
 use Rattle.list.proofs.HeldLists.{held_shaped, judged_held_shape, judged_held_open, judged_held_list}
 use Rattle.list.proofs.judge_held.Goals as goal
 
-open-hold-requires c κs =
-    let fits = held_shaped _ (sym c.before.before.held-shape.ensures ∙ c.enum_told.given.1) in
-    omega (arith, fits.list.within, fits.holds)
-
 pub returns-in-Declined : goal.returns-in-Declined
 returns-in-Declined c = sym (judged_held_shape _ (sym c.held_shape.ensures ∙ c.in-Declined.is))
 
 pub open_hold-requires : goal.open_hold-requires
-open_hold-requires c = ?
-{-  -}
+open_hold-requires c =
+    let fits = held_shaped _ (sym c.held_shape.ensures ∙ c.in_default.is) in
+    omega (arith, fits.list.within, fits.holds)
 
 pub returns-in-Declined-open_hold : goal.returns-in-Declined-open_hold
 returns-in-Declined-open_hold c =

@@ -10,10 +10,6 @@ use Rattle.list.specs.Holds.{held_list, hold_at, judge_hold, open_hold}
 use Rattle.list.proofs.HeldLists.{hold_open, hold_closed}
 use Rattle.list.proofs.open_hold.Goals as goal
 
-open_hold_spec =
-    tie.close
-    (tie.spec invariant-loop decreases-loop loop-holds mul-if1 shared-slice-read-if1 returns add-place loop-less loop-again returns_2)
-
 pub loop-place-init : goal.loop-place-init
 loop-place-init c = (search rules, λ capacity ks ms. sym (first_start _ _))
 

@@ -13,8 +13,8 @@ abbrev pub invariant-loop-place : goal.invariant-loop-place
 invariant-loop-place l =
     (l.place ≤ l.used)
     × ((capacity : ℕ) (ks ms : List ℕ)
-    → first_reason (judge_hold (held_list (record { capacity = capacity; l.used = l.used }) ks ms l.holds)) 0 l.used
-    ≡ first_reason (judge_hold (held_list (record { capacity = capacity; l.used = l.used }) ks ms l.holds)) l.place (l.used - l.place))
+    → first_reason (judge_hold (held_list (record { capacity = capacity; used = l.used }) ks ms l.holds)) 0 l.used
+    ≡ first_reason (judge_hold (held_list (record { capacity = capacity; used = l.used }) ks ms l.holds)) l.place (l.used - l.place))
 
 abbrev pub decreases-loop-place : goal.decreases-loop-place
 decreases-loop-place l = l.used - l.place
