@@ -34,4 +34,4 @@ returns-in-3 c =
 pub returns-in_default : goal.returns-in_default
 unfolding name_of
 returns-in_default c =
-    (omega arith, none_at_40 ∙ sym (no_group c.args.group c.args.index (omega (arith, c.in_default.rest))))
+    (omega arith, none_at_40 ∙ sym (no_group c.args.group c.args.index (omega arith)))
