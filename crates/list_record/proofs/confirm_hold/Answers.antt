@@ -81,6 +81,16 @@ offset_bounds-holds-position c =
     let room = drop_room _ _ (sym c.judge_drop.ensures ∙ c.in_default.is) in
     search rules
 
+pub bounds-holds-position : goal.bounds-holds-position
+bounds-holds-position c =
+    let room = drop_room _ _ (sym c.judge_drop.ensures ∙ c.in_default.is) in
+    search rules
+
+pub bounds-holds-position-2 : goal.bounds-holds-position-2
+bounds-holds-position-2 c =
+    let room = drop_room _ _ (sym c.judge_drop.ensures ∙ c.in_default.is) in
+    search rules
+
 pub overflow_sub-holds : goal.overflow_sub-holds
 unfolding multiplicity_at hold_at
 overflow_sub-holds c =

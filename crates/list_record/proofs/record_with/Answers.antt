@@ -20,9 +20,6 @@ is_recorded : (count hold : ℕ) (h : HeldList) (e : U32TableEntry) {p : Place} 
     → p ≡ place_of h e → Leaves (stored_at count hold h p) a after → Leaves (record_with count hold h e) a after
 is_recorded count hold h e q k = rw (recorded_at count hold h e, ← q) k
 
-record_with_spec =
-    tie.close (tie.spec find-place-requires store-requires same_length same_length_2 same_length_3 returns)
-
 pub store-requires : goal.store-requires
 store-requires c = (search rules, search rules, has_room _ _ c.find_place-place.ensures)
 

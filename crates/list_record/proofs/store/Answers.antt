@@ -44,7 +44,8 @@ bounds-multiplicities-at c = let f = fits_known _ c.in-Known.is c.requires.2 in 
 
 pub overflow_add-multiplicities : goal.overflow_add-multiplicities
 unfolding multiplicity_at hold_at
-overflow_add-multiplicities c = let f = fits_known _ c.in-Known.is c.requires.2 in search rules
+overflow_add-multiplicities c =
+    let f = fits_known (held_list c.args.sizes c.args.keys.now c.args.multiplicities.now c.args.holds.now) c.in-Known.is c.requires.2 in search rules
 
 pub bounds-multiplicities-at-in-Known : goal.bounds-multiplicities-at-in-Known
 bounds-multiplicities-at-in-Known c = let f = fits_known _ c.in-Known.is c.requires.2 in search rules
@@ -54,7 +55,8 @@ offset_bounds-holds-at c = let f = fits_known _ c.in-Known.is c.requires.2 in se
 
 pub overflow_add-holds : goal.overflow_add-holds
 unfolding multiplicity_at hold_at
-overflow_add-holds c = let f = fits_known _ c.in-Known.is c.requires.2 in search rules
+overflow_add-holds c =
+    let f = fits_known (held_list c.args.sizes c.args.keys.now c.args.multiplicities.now c.args.holds.now) c.in-Known.is c.requires.2 in search rules
 
 pub put_key-requires : goal.put_key-requires
 put_key-requires c = let f = fits_new _ c.in-New.is c.requires.2 in search rules
