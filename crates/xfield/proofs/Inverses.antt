@@ -15,8 +15,8 @@ use Rattle.field.proofs.RingLaws.{𝔹, mul_f_zero, mul_f_comm}
 use Rattle.xfield.specs.Extension.{Ext, ext, zero_x, one_x, lift_x, reduce_x, mul_x, scale_x, HasInverse, Reduced, InverseOrZeroX}
 use Rattle.xfield.specs.Inverses.{adjugate_x, norm_x, inv_x}
 use Rattle.xfield.proofs.RingLawsX.{ExprX, expr_x, ◌*X◌, X, Y, env, base_e, solve_x, base_scale_x, 𝔼, neg_one_x}
-use Rattle.xfield.proofs.RingLawsX.{mul_x_comm, mul_x_assoc, mul_x_one, mul_x_zero, mul_x_of_red, red_mul_x, mul_x_red}
-use Rattle.xfield.proofs.RingLawsX.{reduce_x_reduced, reduced_eq, scale_x_reduced, scale_x_mul_x, scale_x_zero, zero_x_reduced, lift_x_mul_f}
+use Rattle.xfield.proofs.RingLawsX.{mul_x_comm, mul_x_assoc, mul_x_one, mul_x_zero, mul_x_of_red, mul_x_red}
+use Rattle.xfield.proofs.RingLawsX.{reduced_eq, scale_x_reduced, scale_x_mul_x, scale_x_zero, lift_x_mul_f}
 
 -- ---- adjugate and norm
 abbrev pub adjugate_e : ExprX → ExprX

@@ -5,7 +5,7 @@
 use Prim.Native.Nat.{ℕ, ◌+◌, ◌-◌, ◌%◌, ◌<◌}
 use mathlib.Core.Path.{◌≡◌, refl, sym, ◌∙◌, ap, ap₂, subst}
 use mathlib.Core.Logic.{◌≢◌, ◌↔◌}
-use mathlib.Core.Bool.{Bool, true, false, not, ◌&&◌, and-true, and-eq-true_iff, true≢false}
+use mathlib.Core.Bool.{Bool, true, false, ◌&&◌, and-true, and-eq-true_iff, true≢false}
 use mathlib.Core.List.{[], ◌∷◌}
 use native.Mathlib.Nat.{mod-eq_of_lt, mod-mod}
 use lib.Dec.{T, eqb}

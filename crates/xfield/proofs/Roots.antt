@@ -5,7 +5,7 @@
 --   norm-zero: where the norm of (a, b, c) is 0, a quotient of two of its cofactors would be a root, or b / c would be one, or else all
 --   three words are 0.
 -- Assumes nothing.
-use Prim.Native.Nat.{ℕ, zero, suc, ◌+◌, ◌*◌, ◌%◌, ◌^◌}
+use Prim.Native.Nat.{ℕ, zero, suc, ◌*◌, ◌%◌, ◌^◌}
 use mathlib.Core.Path.{◌≡◌, refl, sym, ap, ap₂, subst, ◌∙◌}
 use mathlib.Core.Logic.{◌≢◌, ◌↔◌, ◌⊎◌, inl, inr}
 use mathlib.Core.List.{[], ◌∷◌}
@@ -19,7 +19,7 @@ use Rattle.field.proofs.Fermat.{p_fermat}
 use Rattle.field.proofs.Powers.{pow_f_one, pow_f_suc, pow_f_add, pow_f_double}
 use Rattle.field.proofs.Laws.{no_zero_divisors, inv_f_product}
 use Rattle.xfield.specs.Extension.{Ext, ext, zero_x, one_x, reduce_x, sub_x, mul_x, cubic_at, HasInverse, Reduced}
-use Rattle.xfield.proofs.RingLawsX.{ExprX, expr_x, ◌*X◌, ◌-X◌, X, Y, env, ext_path, reduced_same}
+use Rattle.xfield.proofs.RingLawsX.{ExprX, ◌*X◌, ◌-X◌, X, Y, env, ext_path, reduced_same}
 use Rattle.xfield.specs.Inverses.{norm_x, adjugate_x}
 use Rattle.xfield.proofs.Inverses.{adjugate_e, norm_e, has_inverse_iff, has_inverse_red, has_inverse_zero}
 

@@ -29,13 +29,13 @@ loop-rest-preserved c =
     let next = c.if-rest-eq1.power.0 in
     let turn : mul_f next (pow_f (mul_f square square) (rest / 2)) ≡ mul_f c.loop-rest.power.0 (pow_f square rest) =
     elim c.if-rest-eq1.branch [
-      then-rest-eq1 w ↦ odd_turn _ _ _ w.if-rest-eq1.true (ap (λ x. x.0) w.power-is ∙ w.mul-power.ensures)
-    | else-rest-eq1 w ↦ even_turn _ _ _ w.if-rest-eq1.false (ap (λ x. x.0) w.power-is)
+      | then-rest-eq1 w ↦ odd_turn _ _ _ w.if-rest-eq1.true (ap (λ x. x.0) w.power-is ∙ w.mul-power.ensures)
+      | else-rest-eq1 w ↦ even_turn _ _ _ w.if-rest-eq1.false (ap (λ x. x.0) w.power-is)
     ] in
     let small : next < p =
     elim c.if-rest-eq1.branch [
-      then-rest-eq1 w ↦ rw (w.power-is, w.mul-power.ensures) (mul_f_lt _ _)
-    | else-rest-eq1 w ↦ rw w.power-is c.loop-rest.invariant.0
+      | then-rest-eq1 w ↦ rw (w.power-is, w.mul-power.ensures) (mul_f_lt _ _)
+      | else-rest-eq1 w ↦ rw w.power-is c.loop-rest.invariant.0
     ] in
     (small, ap (λ n. mul_f next (pow_f n (rest / 2))) c.mul-square.ensures ∙ turn ∙ c.loop-rest.invariant.1)
 

@@ -13,9 +13,9 @@ returns-then-equals-2 c =
     let passed = c.if-equals-2.true in
     let first = sym c.equals.ensures in
     elim c.if-equals.branch [
-      then-equals w ↦
-        simp (first ∙ w.if-equals.true, sym w.equals-then-equals.ensures ∙ sym w.value-is ∙ passed) c.equals-then-equals-2.ensures
-    | else-equals w ↦ absurd (true≢false (sym passed ∙ w.value-is ∙ w.if-equals.false))
+      | then-equals w ↦
+          simp (first ∙ w.if-equals.true, sym w.equals-then-equals.ensures ∙ sym w.value-is ∙ passed) c.equals-then-equals-2.ensures
+      | else-equals w ↦ absurd (true≢false (sym passed ∙ w.value-is ∙ w.if-equals.false))
     ]
 
 -- the second or the first pair differs
@@ -25,6 +25,6 @@ returns-else-equals-2 c =
     let differed = c.if-equals-2.false in
     let first = sym c.equals.ensures in
     elim c.if-equals.branch [
-      then-equals w ↦ simp (first ∙ w.if-equals.true, sym w.equals-then-equals.ensures ∙ sym w.value-is ∙ differed) differed
-    | else-equals w ↦ simp (first ∙ w.if-equals.false) differed
+      | then-equals w ↦ simp (first ∙ w.if-equals.true, sym w.equals-then-equals.ensures ∙ sym w.value-is ∙ differed) differed
+      | else-equals w ↦ simp (first ∙ w.if-equals.false) differed
     ]

@@ -13,9 +13,9 @@ returns-then-is_zero-2 c =
     let passed = c.if-is_zero-2.true in
     let first = sym c.is_zero.ensures in
     elim c.if-is_zero.branch [
-      then-is_zero w ↦
-        simp (first ∙ w.if-is_zero.true, sym w.is_zero-then-is_zero.ensures ∙ sym w.value-is ∙ passed) c.is_zero-then-is_zero-2.ensures
-    | else-is_zero w ↦ absurd (true≢false (sym passed ∙ w.value-is ∙ w.if-is_zero.false))
+      | then-is_zero w ↦
+          simp (first ∙ w.if-is_zero.true, sym w.is_zero-then-is_zero.ensures ∙ sym w.value-is ∙ passed) c.is_zero-then-is_zero-2.ensures
+      | else-is_zero w ↦ absurd (true≢false (sym passed ∙ w.value-is ∙ w.if-is_zero.false))
     ]
 
 -- the second or the first word is not 0
@@ -25,6 +25,6 @@ returns-else-is_zero-2 c =
     let differed = c.if-is_zero-2.false in
     let first = sym c.is_zero.ensures in
     elim c.if-is_zero.branch [
-      then-is_zero w ↦ simp (first ∙ w.if-is_zero.true, sym w.is_zero-then-is_zero.ensures ∙ sym w.value-is ∙ differed) differed
-    | else-is_zero w ↦ simp (first ∙ w.if-is_zero.false) differed
+      | then-is_zero w ↦ simp (first ∙ w.if-is_zero.true, sym w.is_zero-then-is_zero.ensures ∙ sym w.value-is ∙ differed) differed
+      | else-is_zero w ↦ simp (first ∙ w.if-is_zero.false) differed
     ]
