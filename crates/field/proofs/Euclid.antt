@@ -2,7 +2,7 @@
 -- t1 * r0 + t0 * r1 is p (`whole`), so that a coefficient is at most p while its remainder is not 0. A remainder is never 0 before
 -- it is 1: t * s = p with 1 < s < p cannot be, p being prime. At remainder 1 the coefficient, or p less it, is the inverse. The
 -- loop makes two divisions a turn: `Turning` is what it keeps at its test, `Halfway` what holds between the two. Assumes nothing.
-use Rattle.std.proofs.Common.{◌≡◌, ℕ, zero, suc, ◌+◌, ◌-◌, ◌*◌, ◌/◌, ◌%◌, ◌<◌, ◌≤◌, ◌≢◌, sym, refl, ap, ◌∙◌, add-zero, mod-lt, mod-eq_of_lt, mul_assoc, add-mul, mul-zero, div-add-mod', zero-add, zero-mul, arith}
+use Rattle.std.proofs.Common.{◌≡◌, ℕ, zero, suc, ◌+◌, ◌-◌, ◌*◌, ◌/◌, ◌%◌, ◌<◌, ◌≤◌, ◌≢◌, sym, refl, ap, ◌∙◌, add-zero, mod-lt, mod-eq_of_lt, mul_assoc, add-mul, mul-zero, div-add-mod', zero-add, zero-mul, mul-one, arith}
 use native.Mathlib.Nat.{mul-mod_left}
 use native.Mathlib.Decide.{ℕ_discrete}
 use Rattle.field.specs.Elements.{p, neg_f, mul_f, inv_f}
@@ -65,6 +65,17 @@ pub record Turning (a r0 r1 t0 t1 : ℕ) : Type 0 where
   pub whole : Whole r0 r1 t0 t1
   pub high : Cong p (a * t0 + r0) 0
   pub low : Cong p (a * t1) r1
+
+pub begin : (a : ℕ) → 0 < a → a < p → Turning a p a 0 1
+begin a h l =
+    record {
+      some = h;
+      small = l;
+      fit = omega arith;
+      whole = omega arith;
+      high = c_eq {b = p} (omega arith) ⨾ record { same = refl };
+      low = c_eq (mul-one a);
+    }
 
 -- what it keeps between its two turns
 pub record Halfway (a r0 r1 t0 t1 : ℕ) : Type 0 where
