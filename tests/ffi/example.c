@@ -1,4 +1,4 @@
-/* From two instructions to a verdict; the second is held and confirmed. In the repository: rt staticlib u32_table, then
+/* From two instructions to a verdict; the second is held and confirmed. In the repository: tools/build u32_table, then
  *     cc -Iinclude tests/ffi/example.c target/staticlib/libu32_table.a -o example && ./example */
 #include <inttypes.h>
 #include <stdio.h>

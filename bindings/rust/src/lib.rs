@@ -1,4 +1,4 @@
-//! The U32 table of Triton VM, proved: a safe interface to the static library that `rt staticlib u32_table` makes of the proved crates.
+//! The U32 table of Triton VM, proved: a safe interface to the static library that `tools/build u32_table` makes of the proved crates.
 //!
 //! The table holds every comparison, bitwise and, logarithm, power and bit count that a program made on 32-bit numbers, in rows that forty
 //! polynomials tie together. A [`List`] records them, at once or in two parts, for one [`Recorder`] or two that share its keys, and can be stored; a [`Table`]

@@ -1,4 +1,4 @@
-//! Finds the static library that `rt staticlib u32_table` writes: in the folder U32_TABLE_LIB, or in target/staticlib of this repository. What
+//! Finds the static library that `tools/build u32_table` writes: in the folder U32_TABLE_LIB, or in target/staticlib of this repository. What
 //! cannot be built ends with one sentence.
 use std::env;
 use std::fs;
@@ -56,14 +56,14 @@ fn library(folder: &Path, name: &str, symbol: &str) -> Result<(), String> {
     println!("cargo:rerun-if-changed={}", file.display());
     if !file.is_file() {
         return Err(format!(
-            "There is no {}: run `rt staticlib {name}` in the repository, or set U32_TABLE_LIB to the folder that has lib{name}.a.",
+            "There is no {}: run `tools/build {name}` in the repository, or set U32_TABLE_LIB to the folder that has lib{name}.a.",
             file.display()
         ));
     }
     let bytes = fs::read(&file).map_err(|error| format!("{} cannot be read: {error}.", file.display()))?;
     if !symbols(&bytes).is_some_and(|names| names.split(|&byte| byte == 0).any(|name| name == symbol.as_bytes())) {
         return Err(format!(
-            "{} is not the library that this crate declares, since it has no symbol {symbol}: build it anew with `rt staticlib {name}`.",
+            "{} is not the library that this crate declares, since it has no symbol {symbol}: build it anew with `tools/build {name}`.",
             file.display()
         ));
     }
