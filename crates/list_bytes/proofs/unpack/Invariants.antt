@@ -15,8 +15,8 @@ use Rattle.list_bytes.proofs.unpack.Given as goal
 abbrev pub invariant-loop-i : goal.invariant-loop-i
 invariant-loop-i l =
     (l.i ≤ l.n) × (length l.keys ≡ length l.initial.keys) × (length l.multiplicities ≡ length l.initial.multiplicities)
-    × (sets l.initial.keys 0 (flat_map (λ l.i. entry_words (stored_entry l.bytes l.i)) (places l.n))
-    ≡ sets l.keys (0 + entry_width * l.i) (flat_map (λ l.i. entry_words (stored_entry l.bytes l.i)) (places_from l.i (l.n - l.i))))
+    × (sets l.initial.keys 0 (flat_map (λ i. entry_words (stored_entry l.bytes i)) (places l.n))
+    ≡ sets l.keys (0 + entry_width * l.i) (flat_map (λ i. entry_words (stored_entry l.bytes i)) (places_from l.i (l.n - l.i))))
     × (sets l.initial.multiplicities 0 (map (stored_multiplicity l.bytes) (places l.n))
     ≡ sets l.multiplicities l.i (map (stored_multiplicity l.bytes) (places_from l.i (l.n - l.i))))
 
