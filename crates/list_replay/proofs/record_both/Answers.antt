@@ -13,33 +13,6 @@ use Rattle.list_replay.proofs.record_both.Goals as goal
 has_room : (h : HeldList) (e : U32TableEntry) {p : Place} → p ≡ place_of h e → Fits h p
 has_room h e q = rw q (place_fits h e)
 
-record_both_spec =
-    tie.close
-    (tie.spec
-    find-place-requires
-    reason-at-requires
-    enum-known-reason
-    same_length
-    same_length_2
-    same_length_3
-    returns
-    enum_told
-    find-place-requires-2
-    second-place-requires
-    reason-at-requires-2
-    enum-known-reason-2
-    same-length-4
-    same-length-5
-    same-length-6
-    returns_2
-    enum-told-2
-    store-requires
-    store-requires-2
-    same-length-7
-    same-length-8
-    same-length-9
-    returns_3)
-
 pub returns-in-Declined : goal.returns-in-Declined
 returns-in-Declined c =
     first_refused _ _ _ _ c.find_place-first.ensures

@@ -14,19 +14,8 @@ as_step : (h : HeldList) (s : Step) {es told : StepEntries} {a : Answer} {after 
     → told ≡ step_entries s → told ≡ es → Leaves (step_as h es) a after → Leaves (step_all h s) a after
 as_step h s t q made = rw (step_as_lem h s (sym t ∙ q)) made
 
-record-u32-table-entry-by-value-requires c κs = search rules
-
-record-both-requires c κs =
-    let step = c.before.before.before.before in
-    two_differ _ (sym step.before.before.step-entries.ensures ∙ step.e2.given.1)
-
-pub record_u32_table_entry_by_value-r-requires : goal.record_u32_table_entry_by_value-r-requires
-record_u32_table_entry_by_value-r-requires c = ?
-{-  -}
-
 pub record_both-requires : goal.record_both-requires
-record_both-requires c = ?
-{-  -}
+record_both-requires c = two_differ _ (sym c.step_entries.ensures ∙ c.in-Two.is)
 
 pub returns-in-At : goal.returns-in-At
 returns-in-At c =

@@ -76,4 +76,4 @@ pub returns-in-36 : goal.returns-in-36
 returns-in-36 c = c.merkle_step.ensures ∙ sym (at_merkle _ c.in-36.is)
 
 pub returns-in_default : goal.returns-in_default
-returns-in_default c = let rest = c.in_default.rest in sym (stranger _ rest.0.0.0.0.0.1 rest.0.0.0.0.1 rest.0.0.0.1 rest.0.0.1 rest.0.1 rest.1)
+returns-in_default c = let rest = c.in_default.in_default-own.rest in sym (stranger _ rest.0.0.0.0.0.1 rest.0.0.0.0.1 rest.0.0.0.1 rest.0.0.1 rest.0.1 rest.1)
