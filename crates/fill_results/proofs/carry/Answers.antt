@@ -1,7 +1,8 @@
 -- `fill_results::carry` meets its contract: each arm has its opcode. Assumes nothing.
+use native.Mathlib.Omega.{arith}
+use Rattle.isa.specs.Opcodes.{op_split, op_lt, op_log2_floor, op_and, op_pop_count, op_pow}
 use borrow.Author.Tests.{ne_eqb}
 use Rattle.fill_results.specs.Results.{carry}
-use borrow.Author.Rules.{rules}
 use Rattle.fill_results.proofs.carry.Goals as goal
 
 pub returns-in-4 : goal.returns-in-4
@@ -32,10 +33,10 @@ pub returns-in_default : goal.returns-in_default
 unfolding carry
 returns-in_default c =
     simp (
-      ne_eqb _ _ c.in_default.in_default-own.rest.1,
-      ne_eqb _ _ c.in_default.in_default-own.rest.0.1,
-      ne_eqb _ _ c.in_default.in_default-own.rest.0.0.1,
-      ne_eqb _ _ c.in_default.in_default-own.rest.0.0.0.1,
-      ne_eqb _ _ c.in_default.in_default-own.rest.0.0.0.0.1,
-      ne_eqb _ _ c.in_default.in_default-own.rest.0.0.0.0.0.1,
+      ne_eqb c.args.ci op_split (λ e. omega arith),
+      ne_eqb c.args.ci op_lt (λ e. omega arith),
+      ne_eqb c.args.ci op_and (λ e. omega arith),
+      ne_eqb c.args.ci op_log2_floor (λ e. omega arith),
+      ne_eqb c.args.ci op_pow (λ e. omega arith),
+      ne_eqb c.args.ci op_pop_count (λ e. omega arith),
     )

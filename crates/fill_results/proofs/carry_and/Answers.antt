@@ -1,6 +1,5 @@
 -- `fill_results::carry_and` meets its contract. Assumes nothing.
 use Rattle.fill_results.specs.Results.{carry_and}
-use borrow.Author.Rules.{rules}
 use Rattle.fill_results.proofs.carry_and.Goals as goal
 
 pub returns : goal.returns

@@ -1,7 +1,6 @@
 -- `fill_results::carry_log_2_floor` meets its contract. Assumes nothing.
 use borrow.Author.Tests.{eq-eqb, ne_eqb}
 use Rattle.fill_results.specs.Results.{carry_log2_floor}
-use borrow.Author.Rules.{rules}
 use Rattle.fill_results.proofs.carry_log_2_floor.Goals as goal
 
 pub returns-then-lhs-eq0 : goal.returns-then-lhs-eq0

@@ -1,6 +1,5 @@
 -- `fill_results::carry_pop_count` meets its contract. Assumes nothing.
 use Rattle.fill_results.specs.Results.{carry_pop_count}
-use borrow.Author.Rules.{rules}
 use Rattle.fill_results.proofs.carry_pop_count.Goals as goal
 
 pub returns : goal.returns

@@ -1,7 +1,6 @@
 -- `fill_results::carry_pow` meets its contract. Assumes nothing.
 use borrow.Author.Tests.{eq-eqb, ne_eqb}
 use Rattle.fill_results.specs.Results.{carry_pow}
-use borrow.Author.Rules.{rules}
 use Rattle.fill_results.proofs.carry_pow.Goals as goal
 
 pub returns-then-rhs-eq0 : goal.returns-then-rhs-eq0

@@ -1,7 +1,8 @@
 -- `fill_results::ending` meets its contract: each arm has its opcode. Assumes nothing.
+use native.Mathlib.Omega.{arith}
+use Rattle.isa.specs.Opcodes.{op_split, op_lt, op_log2_floor, op_and, op_pop_count, op_pow}
 use borrow.Author.Tests.{eq-eqb, ne_eqb}
 use Rattle.fill_results.specs.Results.{ending}
-use borrow.Author.Rules.{rules}
 use Rattle.fill_results.proofs.ending.Goals as goal
 
 pub returns-in-4 : goal.returns-in-4
@@ -36,10 +37,10 @@ pub returns-in_default : goal.returns-in_default
 unfolding ending
 returns-in_default c =
     simp (
-      ne_eqb _ _ c.in_default.in_default-own.rest.1,
-      ne_eqb _ _ c.in_default.in_default-own.rest.0.1,
-      ne_eqb _ _ c.in_default.in_default-own.rest.0.0.1,
-      ne_eqb _ _ c.in_default.in_default-own.rest.0.0.0.1,
-      ne_eqb _ _ c.in_default.in_default-own.rest.0.0.0.0.1,
-      ne_eqb _ _ c.in_default.in_default-own.rest.0.0.0.0.0.1,
+      ne_eqb c.args.ci op_split (λ e. omega arith),
+      ne_eqb c.args.ci op_lt (λ e. omega arith),
+      ne_eqb c.args.ci op_and (λ e. omega arith),
+      ne_eqb c.args.ci op_log2_floor (λ e. omega arith),
+      ne_eqb c.args.ci op_pow (λ e. omega arith),
+      ne_eqb c.args.ci op_pop_count (λ e. omega arith),
     )
