@@ -1,12 +1,11 @@
 -- Print, then read: the numbers of printed lines are read back (lines-read). By induction on the digits of a number, whose values only grow, so that none
 -- is past 64 bits before the last; then on the numbers of a line; then on the lines. Assumes nothing.
-use Prim.Native.Nat.{ℕ, ◌+◌, ◌*◌, ◌-◌, ◌≤◌, ◌<◌}
+use Prim.Native.Nat.{ℕ, ◌+◌, ◌*◌, ◌-◌, ◌≤◌}
 use mathlib.Core.Path.{◌≡◌, refl, ap, ◌∙◌}
 use mathlib.Core.Bool.{true, false}
 use mathlib.Core.List.{List, [], ◌∷◌, ◌++◌, map, append_assoc}
 use native.Mathlib.Omega.{arith}
 use borrow.Author.Tests.{le-leb}
-use lib.ListN.{length}
 use Rattle.text.specs.Lines.{decimal, line_rest, line, row_line}
 use Rattle.text.proofs.Decimal.{value_from, AllDigits, none, digit, IsDecimal, decimal_is}
 use Rattle.numbers.specs.declared.Place.{Place}

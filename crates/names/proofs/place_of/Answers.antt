@@ -1,5 +1,4 @@
 -- `names::place_of` meets its contract: the names of a group stand behind those of the groups before. Assumes nothing.
-use borrow.Author.Rules.{rules}
 use mathlib.Core.Path.{refl, ◌∙◌, sym}
 use native.Mathlib.Omega.{arith}
 use mathlib.Core.List.{[], ◌++◌}

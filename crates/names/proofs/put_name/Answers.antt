@@ -1,5 +1,4 @@
 -- `names::put_name` meets its contract: the name at the place that the constraint has. Assumes nothing.
-use borrow.Author.Rules.{rules}
 use mathlib.Core.Path.{sym}
 use Rattle.names.proofs.put_name.Goals as goal
 

@@ -1,5 +1,4 @@
 -- `numbers::gap_step` meets its contract: within a number and not.
-use borrow.Author.Rules.{rules}
 use Rattle.numbers.proofs.gap_step.Goals as goal
 
 pub returns-then-place : goal.returns-then-place

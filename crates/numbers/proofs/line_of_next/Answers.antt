@@ -1,5 +1,4 @@
 -- `numbers::line_of_next` meets its contract: a case for each test.
-use borrow.Author.Rules.{rules}
 use borrow.Author.Tests.{lt-ltb, le-ltb}
 use Rattle.numbers.proofs.line_of_next.Goals as goal
 

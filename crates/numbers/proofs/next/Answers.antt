@@ -1,6 +1,4 @@
 -- `numbers::next` meets its contract: a case for each kind of byte.
-use mathlib.Core.Path.{sym, ◌∙◌}
-use borrow.Author.Rules.{rules}
 use Rattle.numbers.proofs.Steps.{step_space, step_newline, step_below, step_above, step_digit}
 use Rattle.numbers.proofs.next.Goals as goal
 

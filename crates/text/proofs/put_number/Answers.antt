@@ -3,7 +3,6 @@ use borrow.Author.Rules.{rules}
 use mathlib.Core.Path.{ap, ◌∙◌}
 use lib.ListN.{length}
 use native.Mathlib.Omega.{arith}
-use Rattle.text.specs.Lines.{decimal}
 use Rattle.text.proofs.Decimal.{decimal_made}
 use Rattle.text.proofs.put_number.Goals as goal
 

@@ -2,11 +2,11 @@
 -- what is asked.
 use borrow.Author.Rules.{rules}
 use mathlib.Core.Path.{◌≡◌, ap}
-use mathlib.Core.List.{List, [], ◌∷◌, ◌++◌, map}
-use Prim.Native.Nat.{ℕ, ◌+◌, ◌-◌, ◌≤◌, ◌<◌}
+use mathlib.Core.List.{List, [], ◌∷◌, ◌++◌}
+use Prim.Native.Nat.{ℕ, ◌+◌, ◌≤◌, ◌<◌}
 use native.Mathlib.Numerals.{add-one}
 use native.Mathlib.Omega.{arith}
-use lib.ListN.{length, get_or, set, drop, length-set, length-append, drop_of_length-le}
+use lib.ListN.{length, get_or, set, length-set, length-append, drop_of_length-le}
 use lib.Seq.{drop-cons}
 use Rattle.text.specs.Lines.{decimal, line_rest}
 use Rattle.text.specs.Put.{Put}

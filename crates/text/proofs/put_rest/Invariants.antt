@@ -1,15 +1,9 @@
 -- What the loop of `put_rest` keeps, and what falls with each turn.
-use borrow.Author.Rules.{rules}
-use mathlib.Core.Path.{◌≡◌, ap}
-use mathlib.Core.List.{List, [], ◌∷◌, ◌++◌, map}
-use Prim.Native.Nat.{ℕ, ◌+◌, ◌-◌, ◌≤◌, ◌<◌}
-use native.Mathlib.Numerals.{add-one}
-use native.Mathlib.Omega.{arith}
-use lib.ListN.{length, get_or, set, drop, length-set, length-append, drop_of_length-le}
-use lib.Seq.{drop-cons}
+use mathlib.Core.List.{List, map}
+use Prim.Native.Nat.{ℕ, ◌-◌, ◌≤◌}
+use lib.ListN.{length, drop}
 use Rattle.text.specs.Lines.{decimal, line_rest}
-use Rattle.text.specs.Put.{Put}
-use Rattle.text.proofs.Putting.{put_byte, Left, left_all, left_put, left_none}
+use Rattle.text.proofs.Putting.{Left}
 use Rattle.text.proofs.put_rest.Given as goal
 
 -- what follows the first i numbers

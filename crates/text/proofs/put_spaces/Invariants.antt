@@ -1,13 +1,7 @@
 -- What the loop of `put_spaces` keeps, and what falls with each turn.
-use Prim.Native.Nat.{ℕ, suc, ◌+◌, ◌-◌, ◌≤◌, ◌<◌}
-use mathlib.Core.Path.{◌≡◌, ap}
-use mathlib.Core.List.{List, [], ◌∷◌, ◌++◌}
-use native.Mathlib.Omega.{arith}
-use lib.ListN.{length, set, length-set}
+use Prim.Native.Nat.{◌-◌}
 use Rattle.text.specs.Lines.{spaces}
-use Rattle.text.specs.Put.{Put}
-use Rattle.text.proofs.Putting.{put_byte, Left, left_all, left_put, left_none}
-use borrow.Author.Rules.{rules}
+use Rattle.text.proofs.Putting.{Left}
 use Rattle.text.proofs.put_spaces.Given as goal
 
 abbrev pub invariant-loop-i : goal.invariant-loop-i
