@@ -3,8 +3,9 @@
 
 usage: tools/port_edits.py lay OLD FOLDER          makes FOLDER/mut0, FOLDER/mut1 ..: the files of the commit OLD with the edits applied, as many in
                                                    one file as touch no line near one another, and FOLDER/rounds.json, which edit stands where
-       tools/port_edits.py take OLD FOLDER         writes the edits anew from FOLDER/base and FOLDER/r0, r1 ..: what port.py and respell.py made of the
-                                                   files of OLD, and of the same files with mut0, mut1 .. over them
+       tools/port_edits.py take OLD FOLDER [EDIT..]  writes the edits (those named) anew from FOLDER/base and FOLDER/r0, r1 ..: what port.py made of the
+                                                   files of OLD, and of the same files with mut0, mut1 .. over them (or FOLDER/rx, with the file of mutK
+                                                   beside the old one as NAMEVK.antt)
        tools/port_edits.py check                   each edit can be applied: its files are there, and each old text stands once
 
 Between 'lay' and 'take' port.py runs in each of those folders (a repository with crates/ of OLD). An edit that stands as it is and has no word of the older
@@ -314,7 +315,7 @@ def between(a, b, there, p, frag, text):
     return text[b[there[inside[0]]][1]:b[there[inside[-1]]][2]]
 
 
-def take(old, folder):
+def take(old, folder, names=()):
     rows = respell.load()
     rounds = json.load(open(os.path.join(folder, "rounds.json")))
     count, open_ = collections.Counter(), []
@@ -348,6 +349,8 @@ def take(old, folder):
                 lines += b[last:]
                 made_of[rel][src] = (base, "\n".join(lines), old_file)
     for rel, by_file in sorted(made_of.items()):
+        if names and rel not in names:
+            continue
         path = os.path.join(TOP, rel)
         head, pairs = load(path)
         crate, result, how = rel.split("/")[1], [], set()
@@ -417,8 +420,8 @@ def check():
 if __name__ == "__main__":
     if sys.argv[1:2] == ["lay"] and len(sys.argv) == 4:
         raise SystemExit(lay(sys.argv[2], sys.argv[3]))
-    if sys.argv[1:2] == ["take"] and len(sys.argv) == 4:
-        raise SystemExit(take(sys.argv[2], sys.argv[3]))
+    if sys.argv[1:2] == ["take"] and len(sys.argv) >= 4:
+        raise SystemExit(take(sys.argv[2], sys.argv[3], sys.argv[4:]))
     if sys.argv[1:] == ["check"]:
         raise SystemExit(check())
     print(__doc__)
