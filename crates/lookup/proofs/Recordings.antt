@@ -2,7 +2,7 @@
 -- induction on the recordings, from any tables whose known values are those accepted before: a known value leaves the bytes alone, a new one raises
 -- their total by two and is known from then on. Assumes nothing.
 use Prim.Native.Nat.{ℕ, zero, suc, ◌+◌, ◌*◌, ◌/◌, ◌%◌, ◌≤◌, ◌<◌}
-use mathlib.Core.Path.{◌≡◌, refl, sym, ap, ap₂, ◌∙◌}
+use mathlib.Core.Path.{◌≡◌, refl, sym, ap, ap₂, ◌∙◌, subst}
 use mathlib.Core.Bool.{Bool, true, false, not, ◌||◌, and-eq-true_iff}
 use mathlib.Core.List.{List, [], ◌∷◌}
 use native.Mathlib.Nat.{add-zero, zero-add}
@@ -78,9 +78,11 @@ unfolding held
 held_more keys v w i zero h =
     rw (add-zero i) (ap (λ (x : ℕ). eqb x w || false) (get_or-set_same keys i v 0 (omega arith)))
 held_more keys v w i (suc n) h =
-    let e : i + suc n ≡ suc i + n = omega arith in
+    let e : suc i + n ≡ i + suc n = omega arith in
     let other = get_or-set_other keys (i + suc n) i v 0 (omega arith) in
-    ap₂ (λ (x : ℕ) (b : Bool). eqb x w || b) other (rw e (held_more keys v w (suc i) n (omega arith)))
+    let rest = subst (λ (k : ℕ). held (set keys k v) w (suc i) (suc n) ≡ (eqb v w || held keys w (suc i) n)) e
+        (held_more keys v w (suc i) n (omega arith)) in
+    ap₂ (λ (x : ℕ) (b : Bool). eqb x w || b) other rest
     ∙ exchange (eqb (get_or keys i 0) w) (eqb v w) (held keys w (suc i) n)
 
 known_held : (c : Cascade) (v : ℕ) → known c v ≡ held c.keys v 0 (used c)

@@ -23,62 +23,50 @@ module _ (t : Lookups) where
   unfolding bytes_shape
   right_shape e n = rw (e, eq-eqb _ _ n)
 
--- behind the two tests of the shape
-abbrev lent : tie.Else2 → Lookups
-lent c =
-    let args = c.before.before.before.before.before.before.args in
-    lookups args.sizes args.keys.now args.multiplicities.now args.byte-multiplicities.now
-
-cascade-right : (c : tie.Else2) → cascade_shape (lent c).values ≡ true
-cascade-right c = sym c.before.before.has-cascade-shape.ensures ∙ not-false _ c.before.if1.false
-
-right : (c : tie.Else2) → lookup_shape (lent c) ≡ true
-right c = right_shape _ (cascade-right c) c.if2.false
-
 pub returns-then-not-has_cascade_shape : goal.returns-then-not-has_cascade_shape
-returns-then-not-has_cascade_shape c = sym (shape_declined _ _ (wrong_cascade _ (sym c.has_cascade_shape.ensures ∙ not-true _ c.if-not-has_cascade_shape.true-raw)))
+returns-then-not-has_cascade_shape c = sym (shape_declined _ _ (wrong_cascade _ (sym c.if-not-has_cascade_shape.ensures)))
 
 pub returns-then-byte_multiplicities-ne-BYTE_ROWS : goal.returns-then-byte_multiplicities-ne-BYTE_ROWS
 returns-then-byte_multiplicities-ne-BYTE_ROWS c =
     sym
     (shape_declined _ _
-    (wrong_bytes _ (sym c.has_cascade_shape.ensures ∙ not-false _ c.if-not-has_cascade_shape.false-raw) c.if-byte_multiplicities-ne-BYTE_ROWS.true))
+    (wrong_bytes _ (sym c.if-not-has_cascade_shape.ensures) c.if-byte_multiplicities-ne-BYTE_ROWS.true))
 
 pub find_value-at-requires : goal.find_value-at-requires
-find_value-at-requires c = let s = shaped _ (cascade-right c) in omega (arith, s.within, s.keys)
+find_value-at-requires c = let s = shaped _ (sym c.if-not-has_cascade_shape.ensures) in omega (arith, s.within, s.keys)
 
 pub offset_bounds-multiplicities-at : goal.offset_bounds-multiplicities-at
-offset_bounds-multiplicities-at c = let s = shaped _ (cascade-right c) in search rules
+offset_bounds-multiplicities-at c = let s = shaped _ (sym c.if-not-has_cascade_shape.ensures) in record { fits = omega (arith, s.within, s.multiplicities, s.small, c.if-at-used.true) }
 
 pub bounds-multiplicities-at : goal.bounds-multiplicities-at
-bounds-multiplicities-at c = let s = shaped _ (cascade-right c) in omega (arith, s.within, s.multiplicities, c.if-at-used.true)
+bounds-multiplicities-at c = let s = shaped _ (sym c.if-not-has_cascade_shape.ensures) in omega (arith, s.within, s.multiplicities, c.if-at-used.true)
 
 pub returns-then-would_pass_limit : goal.returns-then-would_pass_limit
 returns-then-would_pass_limit c =
     sym
-    (place_full _ _ (right c) _ c.find_value-at.ensures c.if-at-used.true
-    (sym c.would_pass_limit.ensures ∙ c.if-would_pass_limit.true))
+    (place_full _ _ (right_shape _ (sym c.if-not-has_cascade_shape.ensures) c.if-byte_multiplicities-ne-BYTE_ROWS.false) _ c.find_value-at.ensures c.if-at-used.true
+    (sym c.if-would_pass_limit.ensures))
 
 pub returns-then-at-used : goal.returns-then-at-used
 returns-then-at-used c =
     sym
-    (place_known _ _ (right c) _ c.find_value-at.ensures c.if-at-used.true
-    (sym c.would_pass_limit.ensures ∙ c.if-would_pass_limit.false))
+    (place_known _ _ (right_shape _ (sym c.if-not-has_cascade_shape.ensures) c.if-byte_multiplicities-ne-BYTE_ROWS.false) _ c.find_value-at.ensures c.if-at-used.true
+    (sym c.if-would_pass_limit.ensures))
 
 pub returns-then-bytes_full : goal.returns-then-bytes_full
 returns-then-bytes_full c =
     sym
-    (bytes_declined _ _ (right c) _ c.find_value-at.ensures c.if-at-used.false
-    (sym c.bytes_full.ensures ∙ c.if-bytes_full.true))
+    (bytes_declined _ _ (right_shape _ (sym c.if-not-has_cascade_shape.ensures) c.if-byte_multiplicities-ne-BYTE_ROWS.false) _ c.find_value-at.ensures c.if-at-used.false
+    (sym c.if-bytes_full.ensures))
 
 pub returns-then-used-sizes : goal.returns-then-used-sizes
 returns-then-used-sizes c =
     sym
-    (place_new _ _ (right c) _ c.find_value-at.ensures c.if-at-used.false
-    (sym c.bytes_full.ensures ∙ c.if-bytes_full.false) c.if-used-sizes.true)
+    (place_new _ _ (right_shape _ (sym c.if-not-has_cascade_shape.ensures) c.if-byte_multiplicities-ne-BYTE_ROWS.false) _ c.find_value-at.ensures c.if-at-used.false
+    (sym c.if-bytes_full.ensures) c.if-used-sizes.true)
 
 pub returns-else-used-sizes : goal.returns-else-used-sizes
 returns-else-used-sizes c =
     sym
-    (no_place _ _ (right c) _ c.find_value-at.ensures c.if-at-used.false
-    (sym c.bytes_full.ensures ∙ c.if-bytes_full.false) c.if-used-sizes.false)
+    (no_place _ _ (right_shape _ (sym c.if-not-has_cascade_shape.ensures) c.if-byte_multiplicities-ne-BYTE_ROWS.false) _ c.find_value-at.ensures c.if-at-used.false
+    (sym c.if-bytes_full.ensures) c.if-used-sizes.false)

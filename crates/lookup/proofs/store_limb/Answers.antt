@@ -12,7 +12,7 @@ use Rattle.list.proofs.JudgedLists.{count_within}
 use Rattle.lookup.specs.declared.LimbPlace.{LimbPlace}
 use Rattle.lookup.specs.declared.LimbPlace.TheVariants.{Known, New}
 use Rattle.lookup.specs.ByteLookup.{high_byte, low_byte}
-use Rattle.lookup.specs.Cascades.{Lookups, used, raised_byte}
+use Rattle.lookup.specs.Cascades.{Lookups, lookups, used, raised_byte}
 use Rattle.lookup.specs.Placing.{stored_at, Fits}
 use Rattle.lookup.proofs.LookupCases.{bytes_within}
 use Rattle.lookup.proofs.store_limb.Goals as goal
@@ -36,70 +36,17 @@ fits_new t v h e f =
     let b = bytes_within t.byte_multiplicities v g.2 h g.3 in
     record { key = g.0; multiplicity = g.1; bytes = g.2; high = b.0; low = b.1 }
 
-stored_as_lem : (t : Lookups) (v : ℕ) {p q : LimbPlace} {a : Answer} {after : Lookups} → p ≡ q → Leaves (stored_at t v q) a after → Leaves (stored_at t v p) a after
-stored_as_lem t v e h = rw e h
-
-pub offset_bounds-multiplicities-at : goal.offset_bounds-multiplicities-at
-offset_bounds-multiplicities-at c = let f = fits_known _ _ c.in-Known.is c.requires in search rules
-
-pub bounds-multiplicities-at : goal.bounds-multiplicities-at
-bounds-multiplicities-at c = let f = fits_known _ _ c.in-Known.is c.requires in search rules
-
 pub overflow_add-multiplicities : goal.overflow_add-multiplicities
-overflow_add-multiplicities c = let f = fits_known _ _ c.in-Known.is c.requires in search rules
-
-pub bounds-multiplicities-at-in-Known : goal.bounds-multiplicities-at-in-Known
-bounds-multiplicities-at-in-Known c = let f = fits_known _ _ c.in-Known.is c.requires in search rules
-
-pub offset_bounds-keys-used : goal.offset_bounds-keys-used
-offset_bounds-keys-used c =
-    let f = fits_new _ _ c.ranges.limb.fits c.in-New.is c.requires in search rules
-
-pub bounds-keys-used : goal.bounds-keys-used
-bounds-keys-used c =
-    let f = fits_new _ _ c.ranges.limb.fits c.in-New.is c.requires in f.key
-
-pub offset_bounds-multiplicities-used : goal.offset_bounds-multiplicities-used
-offset_bounds-multiplicities-used c =
-    let f = fits_new _ _ c.ranges.limb.fits c.in-New.is c.requires in search rules
-
-pub bounds-multiplicities-used : goal.bounds-multiplicities-used
-bounds-multiplicities-used c =
-    let f = fits_new _ _ c.ranges.limb.fits c.in-New.is c.requires in f.multiplicity
-
-pub bounds-byte_multiplicities-high : goal.bounds-byte_multiplicities-high
-bounds-byte_multiplicities-high c =
-    let f = fits_new _ _ c.ranges.limb.fits c.in-New.is c.requires in search rules
+overflow_add-multiplicities c =
+    let f = fits_known (lookups c.args.sizes c.args.keys.now c.args.multiplicities.now c.args.byte_multiplicities.now) c.args.limb c.in-Known.is c.requires in
+    record { fits = omega (arith, f.1) }
 
 pub overflow_add-byte_multiplicities : goal.overflow_add-byte_multiplicities
 overflow_add-byte_multiplicities c =
-    let f = fits_new _ _ c.ranges.limb.fits c.in-New.is c.requires in search rules
-
-pub bounds-byte_multiplicities-high-in-New : goal.bounds-byte_multiplicities-high-in-New
-bounds-byte_multiplicities-high-in-New c =
-    let f = fits_new _ _ c.ranges.limb.fits c.in-New.is c.requires in search rules
-
-pub bounds-byte_multiplicities-low : goal.bounds-byte_multiplicities-low
-bounds-byte_multiplicities-low c =
-    let f = fits_new _ _ c.ranges.limb.fits c.in-New.is c.requires in simp length-set (omega arith)
+    let f = fits_new (lookups c.args.sizes c.args.keys.now c.args.multiplicities.now c.args.byte_multiplicities.now) c.args.limb c.ranges.limb.fits c.in-New.is c.requires in
+    record { fits = omega (arith, f.high) }
 
 pub overflow_add-byte_multiplicities-in-New : goal.overflow_add-byte_multiplicities-in-New
 overflow_add-byte_multiplicities-in-New c =
-    let f = fits_new _ _ c.ranges.limb.fits c.in-New.is c.requires in record { fits = omega (arith, f.low) }
-
-pub bounds-byte_multiplicities-low-in-New : goal.bounds-byte_multiplicities-low-in-New
-bounds-byte_multiplicities-low-in-New c =
-    let f = fits_new _ _ c.ranges.limb.fits c.in-New.is c.requires in simp length-set (omega arith)
-
-pub overflow_add-result : goal.overflow_add-result
-overflow_add-result c =
-    let f = fits_new _ _ c.ranges.limb.fits c.in-New.is c.requires in search rules
-
-pub returns-in-Known : goal.returns-in-Known
-returns-in-Known c = stored_as_lem _ _ c.in-Known.is (record { answer = refl; left = refl })
-
-pub returns-in-New : goal.returns-in-New
-returns-in-New c = stored_as_lem _ _ c.in-New.is (record { answer = refl; left = refl })
-
-pub returns-in-Refused : goal.returns-in-Refused
-returns-in-Refused c = stored_as_lem _ _ c.in-Refused.is (record { answer = refl; left = refl })
+    let f = fits_new (lookups c.args.sizes c.args.keys.now c.args.multiplicities.now c.args.byte_multiplicities.now) c.args.limb c.ranges.limb.fits c.in-New.is c.requires in
+    record { fits = omega (arith, f.low) }
