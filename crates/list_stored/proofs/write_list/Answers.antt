@@ -10,6 +10,15 @@ use Rattle.list.proofs.CountedStores.{lent_few, counted_lent, lent_keys, lent_co
 use Rattle.list_stored.proofs.Reasons.{height_shaped, height_few, write_refused, write_stores}
 use Rattle.list_stored.proofs.write_list.Goals as goal
 
+pub counted-copy-requires : goal.counted-copy-requires
+counted-copy-requires c =
+    let s = (height_shaped _ _ (sym c.in-Height.is ∙ c.judge_held.ensures)).list in
+    let small = s.small in
+    let within = s.within in record {
+      used_in_bounds = (omega (arith, s.keys), omega (arith, s.multiplicities));
+      used_in_bounds_2 = (omega (arith, small, within), omega (arith, small, within));
+    }
+
 pub overflow_mul-end : goal.overflow_mul-end
 overflow_mul-end c =
     let few = height_few _ _ (sym c.in-Height.is ∙ c.judge_held.ensures) in
