@@ -1,16 +1,16 @@
 -- A recording of a 16-bit value in its two parts. `place_of` in each of its cases: declined for the shape, for a multiplicity that would pass the
 -- limit, for want of a place; a known value; a new one. What is found there fits (place-fits), and storing at it is the recording
 -- (looked-up-at). The test of a new value's bytes, by cases: they are equal and gain two, or differ and gain one each. Assumes nothing.
-use Prim.Native.Nat.{ℕ, ◌+◌, ◌/◌, ◌%◌, ◌≤◌, ◌<◌}
-use mathlib.Core.Path.{◌≡◌, refl, sym, ap, ap₂, ◌∙◌}
-use mathlib.Core.Bool.{Bool, true, false, cond, not, ◌&&◌, ◌||◌, and-eq-true_iff, true≢false}
+use Prim.Native.Nat.{ℕ, ◌+◌, ◌≤◌, ◌<◌}
+use mathlib.Core.Path.{◌≡◌, refl, sym, ap, ◌∙◌}
+use mathlib.Core.Bool.{Bool, true, false, cond, not, ◌||◌, and-eq-true_iff, true≢false}
 use mathlib.Core.Logic.{◌≢◌}
 use mathlib.Core.List.{List, []}
 use native.Mathlib.Omega.{arith}
 use lib.Dec.{eqb, ltb}
-use lib.ListN.{length, get_or, set, length-set}
+use lib.ListN.{length, get_or, length-set}
 use lib.Seq.{get_or-set_same, get_or-set_other}
-use borrow.Author.Tests.{lt-ltb, le-ltb, ltb-true, ltb-false, eqb-true, eqb-false, eq-eqb, ne_eqb, not-true}
+use borrow.Author.Tests.{lt-ltb, le-ltb, ltb-true, ltb-false, eqb-true, eqb-false, not-true}
 use Rattle.words.specs.Limits.{max_cascade_places, multiplicity_limit, byte_rows}
 use Rattle.words.specs.Answers.{done}
 use Rattle.words.specs.Outcomes.{Outcome, outcome}
@@ -21,7 +21,6 @@ use Rattle.words.specs.declared.Refusal.TheVariants.{Shape, CountFull, CascadeFu
 use Rattle.words.proofs.Judgements.{decline_fine, decline_not_fine, or_both}
 use Rattle.list.specs.Lists.{count_full}
 use Rattle.list.proofs.JudgedLists.{count_within}
-use Rattle.lookup.specs.declared.LimbPlace.{LimbPlace}
 use Rattle.lookup.specs.declared.LimbPlace.TheVariants.{Known, New, Refused}
 use Rattle.lookup.specs.ByteLookup.{high_byte, low_byte}
 use Rattle.lookup.specs.Cascades.{Cascade, Lookups, capacity, used, find_value, known, cascade_shape, bytes_shape, lookup_shape}

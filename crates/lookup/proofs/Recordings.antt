@@ -23,8 +23,8 @@ use Rattle.words.proofs.Judgements.{or_both, decline_not_fine}
 use Rattle.words.proofs.Answers.{number_positive}
 use Rattle.lookup.specs.Cascades.{Cascade, Lookups, capacity, used, find_from, find_value, known, lookup_shape, cascade_shape, bytes_shape}
 use Rattle.lookup.specs.Cascades.{raised_byte, raised_bytes, bytes_full, raised, appended, value_reason, lookup_reason, look_up_all}
-use Rattle.lookup.specs.Recordings.{looked_up, accepted, occurs, distinct_after, total, Fresh, SixteenBits, TwiceDistinct}
-use Rattle.lookup.proofs.LookupCases.{Shaped, shaped}
+use Rattle.lookup.specs.Recordings.{looked_up, accepted, occurs, distinct_after, total, SixteenBits, TwiceDistinct}
+use Rattle.lookup.proofs.LookupCases.{shaped}
 
 -- ---- totals
 
@@ -81,7 +81,7 @@ held_more keys v w i (suc n) h =
     let e : suc i + n ≡ i + suc n = omega arith in
     let other = get_or-set_other keys (i + suc n) i v 0 (omega arith) in
     let rest = subst (λ (k : ℕ). held (set keys k v) w (suc i) (suc n) ≡ (eqb v w || held keys w (suc i) n)) e
-        (held_more keys v w (suc i) n (omega arith)) in
+    (held_more keys v w (suc i) n (omega arith)) in
     ap₂ (λ (x : ℕ) (b : Bool). eqb x w || b) other rest
     ∙ exchange (eqb (get_or keys i 0) w) (eqb v w) (held keys w (suc i) n)
 

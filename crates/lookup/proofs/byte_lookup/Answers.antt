@@ -1,5 +1,4 @@
 -- `lookup::byte_lookup` meets its contract: the table has the rule's value there. Assumes nothing.
-use native.Mathlib.Omega.{arith}
 use borrow.Author.Rules.{rules}
 use Rattle.lookup.proofs.ByteLookup.{looked_up_lem}
 use Rattle.lookup.proofs.byte_lookup.Goals as goal

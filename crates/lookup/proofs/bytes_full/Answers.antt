@@ -1,7 +1,6 @@
 -- `lookup::bytes_full` meets its contract: the two cases of `bytes_full`, equal bytes and bytes that differ. Assumes nothing.
 use mathlib.Core.Path.{◌≡◌, sym, ◌∙◌}
 use mathlib.Core.Bool.{Bool, true, false, ◌||◌}
-use native.Mathlib.Omega.{arith}
 use borrow.Author.Rules.{rules}
 use Rattle.lookup.proofs.LookupCases.{full_equal, full_differ}
 use Rattle.lookup.proofs.bytes_full.Goals as goal

@@ -1,5 +1,5 @@
 -- `lookup::cascade_lookup` meets its contract: the table that is lent is the byte lookup's. Assumes nothing.
-use mathlib.Core.Path.{◌≡◌, ◌∙◌}
+use mathlib.Core.Path.{◌∙◌}
 use borrow.Author.Rules.{rules}
 use Rattle.lookup.proofs.ByteLookup.{both_looked_up}
 use Rattle.lookup.proofs.cascade_lookup.Goals as goal

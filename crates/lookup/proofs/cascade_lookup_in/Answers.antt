@@ -1,8 +1,6 @@
 -- `lookup::cascade_lookup_in` meets its contract: each entry that is read is the table's at that byte. Assumes nothing.
-use mathlib.Core.Path.{◌≡◌, ap₂}
+use mathlib.Core.Path.{ap₂}
 use Prim.Native.Nat.{ℕ, ◌+◌, ◌*◌}
-use native.Mathlib.Omega.{arith}
-use borrow.Author.Rules.{rules}
 use Rattle.lookup.proofs.cascade_lookup_in.Goals as goal
 
 pub returns : goal.returns

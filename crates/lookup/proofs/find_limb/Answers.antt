@@ -1,13 +1,11 @@
 -- `lookup::find_limb` meets its contract: each way out is one of the cases of a place (proofs/LookupCases.antt). Assumes nothing.
-use Prim.Native.Nat.{ℕ}
-use mathlib.Core.Path.{◌≡◌, sym, ◌∙◌}
+use mathlib.Core.Path.{◌≡◌, sym}
 use mathlib.Core.Bool.{true, false}
 use native.Mathlib.Omega.{arith}
 use lib.ListN.{length}
-use borrow.Author.Rules.{rules}
-use borrow.Author.Tests.{not-true, not-false, eq-eqb, ne_eqb}
+use borrow.Author.Tests.{eq-eqb, ne_eqb}
 use Rattle.words.specs.Limits.{byte_rows}
-use Rattle.lookup.specs.Cascades.{Lookups, lookups, cascade_shape, bytes_shape, lookup_shape}
+use Rattle.lookup.specs.Cascades.{Lookups, cascade_shape, bytes_shape, lookup_shape}
 use Rattle.lookup.proofs.LookupCases.{shaped, shape_declined, place_full, place_known, bytes_declined, place_new, no_place}
 use Rattle.lookup.proofs.find_limb.Goals as goal
 

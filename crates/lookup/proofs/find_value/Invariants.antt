@@ -1,12 +1,8 @@
 -- What the loops of `find_value` keep, and what falls with each turn.
-use Prim.Native.Nat.{ℕ, ◌+◌, ◌*◌, ◌≤◌, ◌-◌}
-use mathlib.Core.Path.{◌≡◌, sym, ◌∙◌}
+use Prim.Native.Nat.{ℕ, ◌*◌, ◌≤◌, ◌-◌}
+use mathlib.Core.Path.{◌≡◌}
 use mathlib.Core.List.{List}
-use native.Mathlib.Omega.{arith}
-use native.Mathlib.Numerals.{unary_clauses}
-use borrow.Author.Rules.{rules}
 use Rattle.lookup.specs.Cascades.{find_from}
-use Rattle.lookup.proofs.Finding.{find_hit, find_miss, find_none, find_run}
 use Rattle.lookup.proofs.find_value.Given as goal
 
 -- the search goes on from place i

@@ -1,12 +1,8 @@
 -- What the loop of `holds_among` keeps, and what falls with each turn.
-use Prim.Native.Nat.{◌-◌, ◌≤◌}
-use mathlib.Core.Path.{◌≡◌, sym, ◌∙◌}
-use mathlib.Core.Bool.{false, true≢false}
-use mathlib.Core.Logic.{⊎_elim}
-use native.Mathlib.Omega.{arith}
-use borrow.Author.Rules.{rules}
+use Prim.Native.Nat.{◌-◌}
+use mathlib.Core.Path.{◌≡◌}
+use mathlib.Core.Bool.{false}
 use Rattle.lookup.specs.Runs.{NoneHolds}
-use Rattle.lookup.proofs.Finding.{none_yet, none_more, none_fewer}
 use Rattle.lookup.proofs.holds_among.Given as goal
 
 abbrev pub invariant-loop-i : goal.invariant-loop-i

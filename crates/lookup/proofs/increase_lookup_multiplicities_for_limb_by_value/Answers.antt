@@ -2,7 +2,6 @@
 -- recording (looked-up-at). Assumes nothing.
 use Prim.Native.Nat.{ℕ}
 use mathlib.Core.Path.{◌≡◌}
-use borrow.Author.Rules.{rules}
 use Rattle.words.specs.Answers.{Answer}
 use Rattle.words.specs.Outcomes.{Leaves}
 use Rattle.lookup.specs.declared.LimbPlace.{LimbPlace}

@@ -1,19 +1,15 @@
 -- `lookup::store_limb` meets its contract: the place is one of three, and what is required of it makes room. Assumes nothing.
-use Prim.Native.Nat.{ℕ, ◌+◌, ◌/◌, ◌%◌, ◌≤◌, ◌<◌}
-use mathlib.Core.Path.{◌≡◌, refl}
-use mathlib.Core.List.{List}
+use Prim.Native.Nat.{ℕ, ◌+◌, ◌≤◌, ◌<◌}
+use mathlib.Core.Path.{◌≡◌}
 use native.Mathlib.Omega.{arith}
-use borrow.Author.Rules.{rules}
-use lib.ListN.{length, length-set, get_or}
-use Rattle.words.specs.Answers.{Answer}
+use lib.ListN.{length, get_or}
 use Rattle.words.specs.Limits.{multiplicity_limit, byte_rows}
-use Rattle.words.specs.Outcomes.{Leaves}
 use Rattle.list.proofs.JudgedLists.{count_within}
 use Rattle.lookup.specs.declared.LimbPlace.{LimbPlace}
 use Rattle.lookup.specs.declared.LimbPlace.TheVariants.{Known, New}
 use Rattle.lookup.specs.ByteLookup.{high_byte, low_byte}
 use Rattle.lookup.specs.Cascades.{Lookups, lookups, used, raised_byte}
-use Rattle.lookup.specs.Placing.{stored_at, Fits}
+use Rattle.lookup.specs.Placing.{Fits}
 use Rattle.lookup.proofs.LookupCases.{bytes_within}
 use Rattle.lookup.proofs.store_limb.Goals as goal
 
