@@ -8,7 +8,7 @@ ghost use Rattle.words.specs.Limits.{max_rows, max_jobs};
 ghost use Rattle.words.specs.Answers.{done};
 ghost use Rattle.words.specs.Outcomes.{Leaves};
 ghost use Rattle.list_record.specs.Plan.{padded_height};
-ghost use Rattle.batches.specs.Batches.{batch, batches_of, all_rows, padding as paddingOf, some_above, batch_words};
+ghost use Rattle.batches.specs.Batches.{batch, batches_of, all_rows, padding as padding_of, some_above, batch_words};
 ghost use Rattle.batches.specs.Batches.{batch_all, batched_answer, trial_all, trial_answer};
 ghost use Rattle.batches.specs.Splitting.{Lawful};
 
@@ -56,7 +56,7 @@ fn batch_padding(rows: u64) -> u64
 // The totals of the batches, none of which is written.
 fn tally(jobs: &[u64], setting: u64) -> Trial
     requires { (setting ≤ max_rows) × ((length jobs.now ≤ max_jobs) × (some_above setting jobs.now ≡ false)) }
-    ensures { trial_answer result ≡ done (length (batches_of setting jobs.now) ∷ all_rows (batches_of setting jobs.now) ∷ paddingOf (batches_of setting jobs.now) ∷ []) }
+    ensures { trial_answer result ≡ done (length (batches_of setting jobs.now) ∷ all_rows (batches_of setting jobs.now) ∷ padding_of (batches_of setting jobs.now) ∷ []) }
 {
     if jobs.len() == 0 {
         return Trial::Totals {

@@ -1,6 +1,5 @@
 -- `batches::batch_padding` meets its contract: a padded height is at least the rows, and no more than a table may have. Assumes nothing.
 use native.Mathlib.Omega.{arith}
-use borrow.Author.Rules.{rules}
 use Rattle.list_record.proofs.PaddedHeight.{padded_at_least}
 use Rattle.batches.proofs.Walking.{padded_small}
 use Rattle.batches.proofs.batch_padding.Goals as goal

@@ -2,14 +2,13 @@
 use mathlib.Core.Path.{sym, ap, ◌∙◌}
 use Rattle.batches.specs.Batches.{trial_answer}
 use Rattle.batches.proofs.Answering.{fine_tells, trial_tells, torn_leaves, refused_leaves, short_leaves, written_fits, written_leaves, written_lawful}
-use borrow.Author.Rules.{rules}
 use Rattle.batches.proofs.batches.Goals as goal
 
 pub returns-then-results-ne0 : goal.returns-then-results-ne0
 returns-then-results-ne0 c = record {
-      exact = torn_leaves _ _ _ c.if-results-ne0.true;
-      law = tt;
-    }
+  exact = torn_leaves _ _ _ c.if-results-ne0.true;
+  law = tt;
+}
 
 pub returns-then-results-count : goal.returns-then-results-count
 returns-then-results-count c =
@@ -26,9 +25,9 @@ write_batches-requires c =
 
 pub returns-in-Refused : goal.returns-in-Refused
 returns-in-Refused c = record {
-      exact = refused_leaves _ _ _ c.if-results-ne0.false c.in-Refused.reason (ap trial_answer (sym c.in-Refused.is) ∙ c.try_setting.ensures);
-      law = tt;
-    }
+  exact = refused_leaves _ _ _ c.if-results-ne0.false c.in-Refused.reason (ap trial_answer (sym c.in-Refused.is) ∙ c.try_setting.ensures);
+  law = tt;
+}
 
 pub returns-else-results-count : goal.returns-else-results-count
 returns-else-results-count c =

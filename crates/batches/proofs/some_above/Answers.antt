@@ -1,10 +1,7 @@
 -- `batches::some_above` meets its contract. The loop's invariant: a job above the setting stands at a place from i on, if anywhere.
 -- Assumes nothing.
-use Prim.Native.Nat.{◌≤◌, ◌-◌}
-use mathlib.Core.Path.{◌≡◌, refl, sym, ◌∙◌}
+use mathlib.Core.Path.{refl, sym, ◌∙◌}
 use borrow.Author.Rules.{rules}
-use lib.ListN.{length, drop}
-use Rattle.batches.specs.Batches.{some_above}
 use Rattle.batches.proofs.Walking.{above_hit, above_miss, above_none}
 use Rattle.batches.proofs.some_above.Goals as goal
 

@@ -1,10 +1,8 @@
 -- What the loop of `some_above` keeps, and what falls with each turn.
 use Prim.Native.Nat.{◌≤◌, ◌-◌}
-use mathlib.Core.Path.{◌≡◌, refl, sym, ◌∙◌}
-use borrow.Author.Rules.{rules}
+use mathlib.Core.Path.{◌≡◌}
 use lib.ListN.{length, drop}
 use Rattle.batches.specs.Batches.{some_above}
-use Rattle.batches.proofs.Walking.{above_hit, above_miss, above_none}
 use Rattle.batches.proofs.some_above.Given as goal
 
 abbrev pub invariant-loop-i : goal.invariant-loop-i

@@ -1,6 +1,6 @@
 -- `batches::tally` meets its contract. The loop's invariant: the totals so far are those of the batches before the open one (`Tallied`). The measure
 -- is the jobs that are left. Assumes nothing.
-use Prim.Native.Nat.{ℕ, ◌-◌}
+use Prim.Native.Nat.{ℕ}
 use mathlib.Core.Path.{◌≡◌, refl}
 use mathlib.Core.List.{List, [], ◌∷◌}
 use native.Mathlib.Omega.{arith}
@@ -8,8 +8,7 @@ use lib.ListN.{length}
 use Rattle.words.specs.Answers.{done}
 use Rattle.batches.specs.Batches.{batches_of, over_batches, all_rows, padding}
 use Rattle.batches.proofs.Splitting.{none_above}
-use Rattle.batches.proofs.Walking.{Tallied, tally_starts, tally_joins, tally_opens, tally_ends_count, tally_ends_rows, tally_ends_padding}
-use borrow.Author.Rules.{rules}
+use Rattle.batches.proofs.Walking.{tally_starts, tally_joins, tally_opens, tally_ends_count, tally_ends_rows, tally_ends_padding}
 use Rattle.batches.proofs.tally.Goals as goal
 
 no_batches : (setting : ℕ) (jobs : List ℕ) → length jobs ≡ 0

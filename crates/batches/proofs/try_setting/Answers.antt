@@ -1,7 +1,6 @@
 -- `batches::try_setting` meets its contract: a case for each test. Assumes nothing.
 use mathlib.Core.Path.{sym, ◌∙◌}
 use Rattle.batches.proofs.Answering.{trial_zero, trial_large, trial_many, trial_above, trial_done}
-use borrow.Author.Rules.{rules}
 use Rattle.batches.proofs.try_setting.Goals as goal
 
 pub returns-then-setting-eq0 : goal.returns-then-setting-eq0

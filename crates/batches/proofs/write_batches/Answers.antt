@@ -1,6 +1,6 @@
 -- `batches::write_batches` meets its contract. The loop's invariant: the batches before the open one are written, and those from it on, written
 -- after them, make what is due (`Written`). The measure is the jobs that are left. Assumes nothing.
-use Prim.Native.Nat.{ℕ, ◌-◌}
+use Prim.Native.Nat.{ℕ}
 use mathlib.Core.Path.{◌≡◌, refl}
 use mathlib.Core.List.{List, [], ◌∷◌, flat_map}
 use native.Mathlib.Omega.{arith}
@@ -8,8 +8,7 @@ use lib.ListN.{length}
 use lib.Seq.{sets}
 use Rattle.batches.specs.Batches.{batches_of, batch_words}
 use Rattle.batches.proofs.Splitting.{none_above}
-use Rattle.batches.proofs.Walking.{Written, write_starts, write_joins, write_room, write_opens, write_ends}
-use borrow.Author.Rules.{rules}
+use Rattle.batches.proofs.Walking.{write_starts, write_joins, write_room, write_opens, write_ends}
 use Rattle.batches.proofs.write_batches.Goals as goal
 
 no_batches : (setting : ℕ) (jobs results : List ℕ) → length jobs ≡ 0 → results ≡ sets results 0 (flat_map batch_words (batches_of setting jobs))

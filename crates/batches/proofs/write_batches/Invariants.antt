@@ -1,14 +1,7 @@
 -- What the loop of `write_batches` keeps, and what falls with each turn.
-use Prim.Native.Nat.{ℕ, ◌-◌}
-use mathlib.Core.Path.{◌≡◌, refl}
-use mathlib.Core.List.{List, [], ◌∷◌, flat_map}
-use native.Mathlib.Omega.{arith}
+use Prim.Native.Nat.{◌-◌}
 use lib.ListN.{length}
-use lib.Seq.{sets}
-use Rattle.batches.specs.Batches.{batches_of, batch_words}
-use Rattle.batches.proofs.Splitting.{none_above}
-use Rattle.batches.proofs.Walking.{Written, write_starts, write_joins, write_room, write_opens, write_ends}
-use borrow.Author.Rules.{rules}
+use Rattle.batches.proofs.Walking.{Written}
 use Rattle.batches.proofs.write_batches.Given as goal
 
 abbrev pub invariant-loop-i : goal.invariant-loop-i
