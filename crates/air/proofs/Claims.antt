@@ -2,11 +2,11 @@
 -- each CopyFlag 1 row tells the truth (sound), and the last running sum is the sum over the CopyFlag 1 rows where no denominator of
 -- theirs is zero (sum).
 use Prim.Native.Nat.{ℕ, ◌+◌, ◌-◌, ◌<◌}
-use mathlib.Core.Path.{◌≡◌, refl, ap, ◌∙◌, subst}
+use mathlib.Core.Path.{◌≡◌, refl, ◌∙◌, subst}
 use mathlib.Core.Logic.{◌↔◌}
 use mathlib.Core.List.{List, []}
 use native.Mathlib.Omega.{arith}
-use Rattle.words.specs.Answers.{Answer, done, declined}
+use Rattle.words.specs.Answers.{Answer, done}
 use Rattle.words.proofs.Answers.{declined_not_done}
 use Rattle.words.specs.declared.Judgement.{Judgement}
 use Rattle.words.specs.declared.Judgement.TheVariants.{Fine, Declined}

@@ -3,7 +3,7 @@
 -- reason 9 is a zero denominator and nothing else (flat-exactly); where it is not met, each denominator has an inverse (ok-inverse), since
 -- zero alone has none. Assumes nothing.
 use Prim.Native.Nat.{ℕ, zero, suc, ◌+◌, ◌<◌}
-use mathlib.Core.Path.{◌≡◌, refl, sym, ap, ◌∙◌}
+use mathlib.Core.Path.{◌≡◌, refl, sym, ◌∙◌}
 use mathlib.Core.Logic.{◌↔◌}
 use mathlib.Core.Bool.{Bool, true, false, not, ◌&&◌, ◌||◌, and-eq-true_iff, true≢false}
 use native.Mathlib.Numerals.{add-one}
@@ -11,7 +11,7 @@ use native.Mathlib.Omega.{arith}
 use lib.Dec.{eqb}
 use borrow.Author.Count.{below_more}
 use borrow.Author.Tests.{eqb-true, eq-eqb}
-use Rattle.xfield.specs.Extension.{Ext, zero_x, reduce_x, HasInverse, Reduced, is_zero_x}
+use Rattle.xfield.specs.Extension.{zero_x, reduce_x, HasInverse, Reduced, is_zero_x}
 use Rattle.xfield.proofs.Laws.{reduced_same, is_zero_x_true, is_zero_x_yes, nonzero_has_inverse}
 use Rattle.sums.specs.RunningSum.{Summand, denominator_ok, denominators_ok, ZeroDenominator}
 

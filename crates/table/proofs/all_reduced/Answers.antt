@@ -1,12 +1,9 @@
 -- `table::all_reduced` meets its contract. The loops' invariant: each word passed is below p; the measures are the tens and the words that
 -- are left. A word p or more decides the answer, and at the end all words have been passed. Assumes nothing.
-use Prim.Native.Nat.{ℕ, ◌+◌, ◌*◌, ◌/◌, ◌-◌, ◌<◌, ◌≤◌}
-use mathlib.Core.Path.{◌≡◌, sym}
+use mathlib.Core.Path.{sym}
 use native.Mathlib.Omega.{arith}
 use borrow.Author.Count.{below_more}
 use borrow.Author.Tests.{not-false}
-use lib.ListN.{length, get_or}
-use Rattle.field.specs.Elements.{p}
 use Rattle.table.proofs.Rows.{all_reduced_lem}
 use Rattle.table.proofs.Shapes.{word_above}
 use Rattle.table.proofs.Tens.{ten_more}

@@ -1,14 +1,7 @@
 -- What the loops of `all_reduced` keep, and what falls with each turn.
-use Prim.Native.Nat.{ℕ, ◌+◌, ◌*◌, ◌/◌, ◌-◌, ◌<◌, ◌≤◌}
-use mathlib.Core.Path.{◌≡◌, sym}
-use native.Mathlib.Omega.{arith}
-use borrow.Author.Count.{below_more}
-use borrow.Author.Tests.{not-false}
+use Prim.Native.Nat.{ℕ, ◌*◌, ◌-◌, ◌<◌, ◌≤◌}
 use lib.ListN.{length, get_or}
 use Rattle.field.specs.Elements.{p}
-use Rattle.table.proofs.Rows.{all_reduced_lem}
-use Rattle.table.proofs.Shapes.{word_above}
-use Rattle.table.proofs.Tens.{ten_more}
 use Rattle.table.proofs.all_reduced.Given as goal
 
 abbrev pub invariant-loop-ten : goal.invariant-loop-ten

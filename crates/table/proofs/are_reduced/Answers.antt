@@ -1,6 +1,4 @@
 -- `table::are_reduced` meets its contract: the two tests are the definitions', in their order. Assumes nothing.
-use mathlib.Core.Path.{refl}
-use borrow.Author.Rules.{rules}
 use Rattle.table.proofs.are_reduced.Goals as goal
 
 pub returns-then-all_reduced : goal.returns-then-all_reduced

@@ -1,5 +1,4 @@
 -- `table::are_ten_reduced` meets its contract: each word has its test. Assumes nothing.
-use mathlib.Core.Bool.{false≢true}
 use borrow.Author.Rules.{rules}
 use Rattle.table.proofs.Tens.{ten_below}
 use Rattle.table.proofs.are_ten_reduced.Goals as goal

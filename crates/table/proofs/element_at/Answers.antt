@@ -1,6 +1,5 @@
 -- `table::element_at` meets its contract: the three words are read where the definition reads them. Assumes nothing.
 use mathlib.Core.Path.{refl}
-use borrow.Author.Rules.{rules}
 use Rattle.table.specs.Columns.{element_at}
 use Rattle.table.proofs.element_at.Goals as goal
 

@@ -1,6 +1,4 @@
 -- `table::have_shapes` meets its contract: the three tests are the definitions', in their order. Assumes nothing.
-use mathlib.Core.Path.{refl}
-use borrow.Author.Rules.{rules}
 use Rattle.table.proofs.have_shapes.Goals as goal
 
 pub returns-then-has_shape-2 : goal.returns-then-has_shape-2

@@ -1,6 +1,5 @@
 -- `table::AuxRow::has_shape` meets its contract: the test is the definition's. Assumes nothing.
 use mathlib.Core.Path.{refl}
-use borrow.Author.Rules.{rules}
 use Rattle.table.specs.Columns.{aux_shape}
 use Rattle.table.proofs.AuxRow.has_shape.Goals as goal
 

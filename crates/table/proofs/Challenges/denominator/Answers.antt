@@ -1,5 +1,4 @@
 -- `table::Challenges::denominator` meets its contract: the sum is made in the definition's order. Assumes nothing.
-use mathlib.Core.Path.{refl}
 use Rattle.table.specs.Challenges.{denominator, compressed_row}
 use Rattle.table.proofs.Challenges.denominator.Goals as goal
 

@@ -1,6 +1,4 @@
 -- `table::Challenges::from_words` meets its contract: element i of the words is challenge i. Assumes nothing.
-use mathlib.Core.Path.{refl}
-use borrow.Author.Rules.{rules}
 use Rattle.table.specs.Challenges.{challenges_of}
 use Rattle.table.proofs.Challenges.from_words.Goals as goal
 

@@ -1,6 +1,5 @@
 -- `table::MainRow::at` meets its contract: the ten words are read where the definition reads them. Assumes nothing.
 use mathlib.Core.Path.{refl}
-use borrow.Author.Rules.{rules}
 use Rattle.table.specs.Columns.{row_at}
 use Rattle.table.specs.Layouts.{row_of}
 use Rattle.table.proofs.MainRow.at.Goals as goal

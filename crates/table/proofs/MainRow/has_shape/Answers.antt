@@ -1,6 +1,5 @@
 -- `table::MainRow::has_shape` meets its contract: the two tests are the definition's. Assumes nothing.
 use Prim.Native.Nat.{◌%◌}
-use mathlib.Core.Path.{refl}
 use lib.ListN.{length}
 use borrow.Author.Tests.{eq-eqb, ne_eqb}
 use Rattle.words.specs.Limits.{max_rows}

@@ -1,11 +1,10 @@
 -- `table::MainRow::put` meets its contract. The invariant: the table is the old one with the first words of the row put in. Assumes nothing.
 use mathlib.Core.Path.{◌≡◌, refl, ap, ◌∙◌}
 use mathlib.Core.List.{List}
-use Prim.Native.Nat.{ℕ, ◌+◌, ◌*◌, ◌-◌, ◌≤◌}
+use Prim.Native.Nat.{ℕ, ◌+◌, ◌*◌}
 use native.Mathlib.Omega.{arith}
 use lib.ListN.{length, take, set, get_or}
 use lib.Seq.{sets, length-sets, take_all}
-use borrow.Author.Rules.{rules}
 use Rattle.words.proofs.Sets.{sets_turn}
 use Rattle.table.specs.Columns.{main_width}
 use Rattle.table.proofs.MainRow.put.Goals as goal

@@ -1,12 +1,8 @@
 -- What the loop of `put` keeps, and what falls with each turn.
-use mathlib.Core.Path.{◌≡◌, refl, ap, ◌∙◌}
-use mathlib.Core.List.{List}
-use Prim.Native.Nat.{ℕ, ◌+◌, ◌*◌, ◌-◌, ◌≤◌}
-use native.Mathlib.Omega.{arith}
-use lib.ListN.{length, take, set, get_or}
-use lib.Seq.{sets, length-sets, take_all}
-use borrow.Author.Rules.{rules}
-use Rattle.words.proofs.Sets.{sets_turn}
+use mathlib.Core.Path.{◌≡◌}
+use Prim.Native.Nat.{◌-◌, ◌≤◌}
+use lib.ListN.{take}
+use lib.Seq.{sets}
 use Rattle.table.specs.Columns.{main_width}
 use Rattle.table.proofs.MainRow.put.Given as goal
 
