@@ -9,11 +9,11 @@ use Rattle.archive.proofs.Reasons.{shaped, archive_shape, archive_short, archive
 use Rattle.archive.proofs.archive.Goals as goal
 
 pub returns-then-not-have_shapes : goal.returns-then-not-have_shapes
-returns-then-not-have_shapes c = archived_refused _ _ _ (archive_shape _ _ _ (sym c.have_shapes.ensures ∙ not-true _ c.if-not-have_shapes.true-raw))
+returns-then-not-have_shapes c = archived_refused _ _ _ (archive_shape _ _ _ (sym c.if-not-have_shapes.ensures))
 
 pub archive_length-requires : goal.archive_length-requires
 archive_length-requires c =
-    let h = shaped _ _ (sym c.have_shapes.ensures ∙ not-false _ c.if-not-have_shapes.false-raw) in
+    let h = shaped _ _ (sym c.if-not-have_shapes.ensures) in
     let few = h.table_is_whole.limit in
     omega arith
 
@@ -21,19 +21,19 @@ pub returns-then-out-archive_length : goal.returns-then-out-archive_length
 returns-then-out-archive_length c =
     let e = c.archive_length.ensures in
     let h = c.if-out-archive_length.true in
-    archived_refused _ _ _ (archive_short _ _ _ (sym c.have_shapes.ensures ∙ not-false _ c.if-not-have_shapes.false-raw) (omega arith))
+    archived_refused _ _ _ (archive_short _ _ _ (sym c.if-not-have_shapes.ensures) (omega arith))
 
 pub returns-then-not-are_reduced : goal.returns-then-not-are_reduced
 returns-then-not-are_reduced c =
     let e = c.archive_length.ensures in
     let h = c.if-out-archive_length.false in
     archived_refused _ _ _
-    (archive_unreduced _ _ _ (sym c.have_shapes.ensures ∙ not-false _ c.if-not-have_shapes.false-raw) (omega arith)
-    (sym c.are_reduced.ensures ∙ not-true _ c.if-not-are_reduced.true-raw))
+    (archive_unreduced _ _ _ (sym c.if-not-have_shapes.ensures) (omega arith)
+    (sym c.if-not-are_reduced.ensures))
 
 pub put_columns-requires : goal.put_columns-requires
 put_columns-requires c =
-    let h = shaped _ _ (sym c.have_shapes.ensures ∙ not-false _ c.if-not-have_shapes.false-raw) in
+    let h = shaped _ _ (sym c.if-not-have_shapes.ensures) in
     let few = h.table_is_whole.limit in
     let whole = h.table_is_whole.whole in
     let e = c.archive_length.ensures in
@@ -43,7 +43,7 @@ put_columns-requires c =
 
 pub put_columns-requires-2 : goal.put_columns-requires-2
 put_columns-requires-2 c =
-    let h = shaped _ _ (sym c.have_shapes.ensures ∙ not-false _ c.if-not-have_shapes.false-raw) in
+    let h = shaped _ _ (sym c.if-not-have_shapes.ensures) in
     let few = h.table_is_whole.limit in
     let whole = h.aux_length in
     let e = c.archive_length.ensures in
@@ -57,7 +57,7 @@ returns c =
     let e = c.archive_length.ensures in
     let h = c.if-out-archive_length.false in
     archived_done _ _ _ _
-    (archive_fine _ _ _ (sym c.have_shapes.ensures ∙ not-false _ c.if-not-have_shapes.false-raw) (omega arith)
-    (sym c.are_reduced.ensures ∙ not-false _ c.if-not-are_reduced.false-raw))
+    (archive_fine _ _ _ (sym c.if-not-have_shapes.ensures) (omega arith)
+    (sym c.if-not-are_reduced.ensures))
     (put_archive _ _ _ _ _ _ c.put_le.ensures c.put_columns.ensures
     c.put_columns-2.ensures)

@@ -60,25 +60,25 @@ returns-then-requests-ne0 c = refused _ _ (torn_requests _ _ c.if-requests-ne0.t
 
 pub returns-then-not-has_shape : goal.returns-then-not-has_shape
 returns-then-not-has_shape c =
-    refused _ _ (no_challenges _ _ (omega (arith, c.if-requests-ne0.false)) (sym c.has_shape.ensures ∙ not-true _ c.if-not-has_shape.true-raw))
+    refused _ _ (no_challenges _ _ (omega (arith, c.if-requests-ne0.false)) (sym c.if-not-has_shape.ensures))
 
 pub returns-then-not-all_reduced : goal.returns-then-not-all_reduced
 returns-then-not-all_reduced c =
     refused _ _
-    (unreduced _ _ (omega (arith, c.if-requests-ne0.false)) (sym c.has_shape.ensures ∙ not-false _ c.if-not-has_shape.false-raw)
-    (sym c.all_reduced.ensures ∙ not-true _ c.if-not-all_reduced.true-raw))
+    (unreduced _ _ (omega (arith, c.if-requests-ne0.false)) (sym c.if-not-has_shape.ensures)
+    (sym c.if-not-all_reduced.ensures))
 
 pub from_words-elements-requires : goal.from_words-elements-requires
 from_words-elements-requires c =
-    let fifteen = challenges_shaped _ (sym c.has_shape.ensures ∙ not-false _ c.if-not-has_shape.false-raw) in omega arith
+    let fifteen = challenges_shaped _ (sym c.if-not-has_shape.ensures) in omega arith
 
 pub loop-i-init : goal.loop-i-init
 unfolding running_sum
 loop-i-init c =
     (
       omega arith,
-      request_by_request _ _ (omega (arith, c.if-requests-ne0.false)) (sym c.has_shape.ensures ∙ not-false _ c.if-not-has_shape.false-raw)
-          (sym c.all_reduced.ensures ∙ not-false _ c.if-not-all_reduced.false-raw)
+      request_by_request _ _ (omega (arith, c.if-requests-ne0.false)) (sym c.if-not-has_shape.ensures)
+          (sym c.if-not-all_reduced.ensures)
           ∙ sym (first_start _ _),
       refl,
     )

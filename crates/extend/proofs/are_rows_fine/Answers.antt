@@ -33,11 +33,11 @@ returns-then-not-denominator_ok c = λ e. absurd (false≢true e)
 pub loop-row-preserved : goal.loop-row-preserved
 loop-row-preserved c =
     let summand = row_summand c.args.table.now c.args.challenges.now c.loop-row.row refl c.from_words-elements.ensures in
-    let more = ten_more _ _ c.loop-row.invariant.1 (c.are_ten_reduced.ensures (not-false _ c.if-not-are_ten_reduced.false-raw)) in (
+    let more = ten_more _ _ c.loop-row.invariant.1 (c.are_ten_reduced.ensures (c.if-not-are_ten_reduced.false)) in (
       omega arith,
       λ k h. more k (omega arith),
       denominators_more _ c.loop-row.row c.loop-row.invariant.2
-          (ap denominator_ok (sym summand) ∙ sym c.denominator_ok.ensures ∙ not-false _ c.if-not-denominator_ok.false-raw),
+          (ap denominator_ok (sym summand) ∙ sym c.denominator_ok.ensures ∙ c.if-not-denominator_ok.false),
     )
 
 pub returns : goal.returns

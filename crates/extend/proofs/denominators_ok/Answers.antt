@@ -23,14 +23,14 @@ returns-then-not-denominator_ok c =
     row_summand c.args.table.now c.args.challenges.now c.loop-judged.judged refl c.from_words-elements.ensures in
     sym
     (denominators_not_ok _ _ c.loop-judged.judged (search rules)
-    (ap denominator_ok (sym summand) ∙ sym c.denominator_ok.ensures ∙ not-true _ c.if-not-denominator_ok.true-raw))
+    (ap denominator_ok (sym summand) ∙ sym c.denominator_ok.ensures ∙ c.if-not-denominator_ok.true))
 
 pub loop-judged-preserved : goal.loop-judged-preserved
 loop-judged-preserved c =
     let summand =
     row_summand c.args.table.now c.args.challenges.now c.loop-judged.judged refl c.from_words-elements.ensures in (
       denominators_more _ c.loop-judged.judged c.loop-judged.invariant.0
-          (ap denominator_ok (sym summand) ∙ sym c.denominator_ok.ensures ∙ not-false _ c.if-not-denominator_ok.false-raw),
+          (ap denominator_ok (sym summand) ∙ sym c.denominator_ok.ensures ∙ c.if-not-denominator_ok.false),
       search rules,
     )
 

@@ -9,12 +9,12 @@ use borrow.Author.Tests.{not-true, not-false}
 use Rattle.fill.proofs.fill.Goals as goal
 
 pub returns-then-not-has_shape : goal.returns-then-not-has_shape
-returns-then-not-has_shape c = fill_shape _ _ (sym c.has_shape.ensures ∙ not-true _ c.if-not-has_shape.true-raw)
+returns-then-not-has_shape c = fill_shape _ _ (sym c.if-not-has_shape.ensures)
 
 pub returns-then-table-height : goal.returns-then-table-height
 returns-then-table-height c =
     let j = held_height _ _ (sym c.in-Height.is ∙ c.judge_held.ensures) in
-    fill_short _ _ (sym c.has_shape.ensures ∙ not-false _ c.if-not-has_shape.false-raw) j.0 (omega arith)
+    fill_short _ _ (sym c.if-not-has_shape.ensures) j.0 (omega arith)
 
 pub fill_counted-requires : goal.fill_counted-requires
 unfolding section_list
@@ -32,10 +32,10 @@ fill_counted-requires c =
 
 pub returns-in-Refused : goal.returns-in-Refused
 returns-in-Refused c =
-    fill_list _ _ (sym c.has_shape.ensures ∙ not-false _ c.if-not-has_shape.false-raw) (held_refused _ _ (sym c.in-Refused.is ∙ c.judge_held.ensures))
+    fill_list _ _ (sym c.if-not-has_shape.ensures) (held_refused _ _ (sym c.in-Refused.is ∙ c.judge_held.ensures))
 
 pub returns-else-table-height : goal.returns-else-table-height
 unfolding section_list
 returns-else-table-height c =
     let j = held_height _ _ (sym c.in-Height.is ∙ c.judge_held.ensures) in
-    fill_done _ _ (sym c.has_shape.ensures ∙ not-false _ c.if-not-has_shape.false-raw) j.0 (omega arith) c.fill_counted.ensures.value c.fill_counted.ensures.table_after
+    fill_done _ _ (sym c.if-not-has_shape.ensures) j.0 (omega arith) c.fill_counted.ensures.value c.fill_counted.ensures.table_after

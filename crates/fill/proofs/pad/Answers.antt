@@ -22,16 +22,16 @@ words_judged : {words : List ℕ} {made row : Row} {answer : Bool} → words ≡
 words_judged e f a = a ∙ ap all_reduced (e ∙ ap (λ (r : Row). row_words r) f)
 
 pub returns-then-not-has_shape : goal.returns-then-not-has_shape
-returns-then-not-has_shape c = pad_shape _ _ (sym c.has_shape.ensures ∙ not-true _ c.if-not-has_shape.true-raw)
+returns-then-not-has_shape c = pad_shape _ _ (sym c.if-not-has_shape.ensures)
 
 pub returns-then-rows-filled : goal.returns-then-rows-filled
 returns-then-rows-filled c =
-    pad_short _ _ (sym c.has_shape.ensures ∙ not-false _ c.if-not-has_shape.false-raw) c.if-rows-filled.true
+    pad_short _ _ (sym c.if-not-has_shape.ensures) c.if-rows-filled.true
 
 pub returns-then-not-all_reduced : goal.returns-then-not-all_reduced
 returns-then-not-all_reduced c =
-    pad_unreduced _ _ (sym c.has_shape.ensures ∙ not-false _ c.if-not-has_shape.false-raw) c.if-rows-filled.false
-    (sym (words_judged c.words.ensures c.last_filled-last.ensures c.all_reduced.ensures) ∙ not-true _ c.if-not-all_reduced.true-raw)
+    pad_unreduced _ _ (sym c.if-not-has_shape.ensures) c.if-rows-filled.false
+    (sym (words_judged c.words.ensures c.last_filled-last.ensures c.all_reduced.ensures) ∙ c.if-not-all_reduced.true)
 
 pub loop-row-init : goal.loop-row-init
 loop-row-init c =
@@ -56,6 +56,6 @@ returns c =
     let all : c.loop-row.row ≡ row_count old = omega arith in
     let row : row_of c.padding_row-padding.result ≡ padding_row (last_filled old filled) =
     c.padding_row-padding.ensures ∙ ap padding_row c.last_filled-last.ensures in
-    pad_done old filled (sym c.has_shape.ensures ∙ not-false _ c.if-not-has_shape.false-raw) c.if-rows-filled.false
-    (sym (words_judged c.words.ensures c.last_filled-last.ensures c.all_reduced.ensures) ∙ not-false _ c.if-not-all_reduced.false-raw)
+    pad_done old filled (sym c.if-not-has_shape.ensures) c.if-rows-filled.false
+    (sym (words_judged c.words.ensures c.last_filled-last.ensures c.all_reduced.ensures) ∙ c.if-not-all_reduced.false)
     (rw (← all, ← row) c.loop-row.invariant.3)

@@ -38,6 +38,6 @@ pub returns : goal.returns
 returns c =
     let whole = first_section c.args.e c.args.multiplicity c.requires.e_bound.0 in
     let f = c.fill_section.ensures in record {
-      value = f.0 ∙ ap top_result whole;
-      table_after = f.1 ∙ ap (λ (q : Section). sets c.args.table.now (main_width * c.args.row) (section_words q)) whole;
+      value = f.value ∙ ap top_result whole;
+      table_after = f.table_after ∙ ap (λ (q : Section). sets c.args.table.now (main_width * c.args.row) (section_words q)) whole;
     }

@@ -22,12 +22,12 @@ pub returns-then-not-has_sum_shape : goal.returns-then-not-has_sum_shape
 returns-then-not-has_sum_shape c =
     due_is
     (byte_sum_wrong _ _ _
-    (bytes_right _ _ _ c.if-byte_multiplicities-ne-BYTE_ROWS.false ∙ sym c.has_sum_shape.ensures ∙ not-true _ c.if-not-has_sum_shape.true-raw))
+    (bytes_right _ _ _ c.if-byte_multiplicities-ne-BYTE_ROWS.false ∙ sym c.has_sum_shape.ensures ∙ c.if-not-has_sum_shape.true))
     (record { answer = refl; left = refl })
 
 pub sum_places-requires : goal.sum_places-requires
 sum_places-requires c =
-    let shapes = sum_shaped byte_rows _ _ (sym c.has_sum_shape.ensures ∙ not-false _ c.if-not-has_sum_shape.false-raw) in
+    let shapes = sum_shaped byte_rows _ _ (sym c.if-not-has_sum_shape.ensures) in
     let keys = c.byte_keys-keys.ensures.places in
     let bytes = c.if-byte_multiplicities-ne-BYTE_ROWS.false in
     (omega arith, omega arith, omega arith, omega arith)
@@ -36,6 +36,6 @@ pub returns : goal.returns
 returns c =
     due_is
     (byte_sum_right _ _ _
-    (bytes_right _ _ _ c.if-byte_multiplicities-ne-BYTE_ROWS.false ∙ sym c.has_sum_shape.ensures ∙ not-false _ c.if-not-has_sum_shape.false-raw)
+    (bytes_right _ _ _ c.if-byte_multiplicities-ne-BYTE_ROWS.false ∙ sym c.has_sum_shape.ensures ∙ c.if-not-has_sum_shape.false)
     ∙ sym (bytes_summed _ _ _ _ c.byte_keys-keys.ensures.numbers))
     c.sum_places.ensures

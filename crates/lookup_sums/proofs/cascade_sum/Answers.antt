@@ -23,24 +23,24 @@ first_right a b e = rw e
 
 pub returns-then-not-has_cascade_shape : goal.returns-then-not-has_cascade_shape
 returns-then-not-has_cascade_shape c =
-    due_is (cascade_sum_wrong _ _ _ (first_wrong _ _ (sym c.has_cascade_shape.ensures ∙ not-true _ c.if-not-has_cascade_shape.true-raw)))
+    due_is (cascade_sum_wrong _ _ _ (first_wrong _ _ (sym c.if-not-has_cascade_shape.ensures)))
     (record { answer = refl; left = refl })
 
 pub has_sum_shape-requires : goal.has_sum_shape-requires
-has_sum_shape-requires c = (shaped _ (sym c.has_cascade_shape.ensures ∙ not-false _ c.if-not-has_cascade_shape.false-raw)).small
+has_sum_shape-requires c = (shaped _ (sym c.if-not-has_cascade_shape.ensures)).small
 
 pub returns-then-not-has_sum_shape : goal.returns-then-not-has_sum_shape
 returns-then-not-has_sum_shape c =
     due_is
     (cascade_sum_wrong _ _ _
-    (first_right _ _ (sym c.has_cascade_shape.ensures ∙ not-false _ c.if-not-has_cascade_shape.false-raw)
-    ∙ sym c.has_sum_shape.ensures ∙ not-true _ c.if-not-has_sum_shape.true-raw))
+    (first_right _ _ (sym c.if-not-has_cascade_shape.ensures)
+    ∙ sym c.has_sum_shape.ensures ∙ c.if-not-has_sum_shape.true))
     (record { answer = refl; left = refl })
 
 pub sum_places-requires : goal.sum_places-requires
 sum_places-requires c =
-    let cascade = shaped _ (sym c.has_cascade_shape.ensures ∙ not-false _ c.if-not-has_cascade_shape.false-raw) in
-    let shapes = sum_shaped _ _ _ (sym c.has_sum_shape.ensures ∙ not-false _ c.if-not-has_sum_shape.false-raw) in
+    let cascade = shaped _ (sym c.if-not-has_cascade_shape.ensures) in
+    let shapes = sum_shaped _ _ _ (sym c.if-not-has_sum_shape.ensures) in
     let within = cascade.within in
     (omega (arith, cascade.keys), omega (arith, cascade.multiplicities), omega arith, omega arith)
 
@@ -48,6 +48,6 @@ pub returns : goal.returns
 returns c =
     due_is
     (cascade_sum_right _ _ _
-    (first_right _ _ (sym c.has_cascade_shape.ensures ∙ not-false _ c.if-not-has_cascade_shape.false-raw)
-    ∙ sym c.has_sum_shape.ensures ∙ not-false _ c.if-not-has_sum_shape.false-raw))
+    (first_right _ _ (sym c.if-not-has_cascade_shape.ensures)
+    ∙ sym c.has_sum_shape.ensures ∙ c.if-not-has_sum_shape.false))
     c.sum_places.ensures

@@ -12,7 +12,7 @@ use Rattle.lookup_sums.proofs.Sums.{challenges_unreduced, multiplicities_unreduc
 use Rattle.lookup_sums.proofs.sum_places.Goals as goal
 
 pub returns-then-not-all_reduced : goal.returns-then-not-all_reduced
-returns-then-not-all_reduced c = leaves_declined _ _ _ (challenges_unreduced _ _ _ _ (sym c.all_reduced.ensures ∙ not-true _ c.if-not-all_reduced.true-raw))
+returns-then-not-all_reduced c = leaves_declined _ _ _ (challenges_unreduced _ _ _ _ (sym c.if-not-all_reduced.ensures))
 
 pub slice_bounds-all_reduced-end : goal.slice_bounds-all_reduced-end
 slice_bounds-all_reduced-end c = sym (length-take-le _ _ c.requires.1)
@@ -20,21 +20,21 @@ slice_bounds-all_reduced-end c = sym (length-take-le _ _ c.requires.1)
 pub returns-then-not-all_reduced-2 : goal.returns-then-not-all_reduced-2
 returns-then-not-all_reduced-2 c =
     leaves_declined _ _ _
-    (multiplicities_unreduced _ _ _ _ (sym c.all_reduced.ensures ∙ not-false _ c.if-not-all_reduced.false-raw)
-    (sym c.all_reduced-2.ensures ∙ not-true _ c.if-not-all_reduced-2.true-raw))
+    (multiplicities_unreduced _ _ _ _ (sym c.if-not-all_reduced.ensures)
+    (sym c.if-not-all_reduced-2.ensures))
 
 pub returns-then-not-denominators_ok : goal.returns-then-not-denominators_ok
 returns-then-not-denominators_ok c =
     leaves_declined _ _ _
-    (flat _ _ _ _ (sym c.all_reduced.ensures ∙ not-false _ c.if-not-all_reduced.false-raw)
-    (sym c.all_reduced-2.ensures ∙ not-false _ c.if-not-all_reduced-2.false-raw)
-    (sym (c.denominators_ok.ensures _) ∙ not-true _ c.if-not-denominators_ok.true-raw))
+    (flat _ _ _ _ (sym c.if-not-all_reduced.ensures)
+    (sym c.if-not-all_reduced-2.ensures)
+    (sym (c.denominators_ok.ensures _) ∙ c.if-not-denominators_ok.true))
 
 pub returns : goal.returns
 returns c =
     leaves_done _ _ _
-    (fine _ _ _ _ (sym c.all_reduced.ensures ∙ not-false _ c.if-not-all_reduced.false-raw)
-    (sym c.all_reduced-2.ensures ∙ not-false _ c.if-not-all_reduced-2.false-raw)
-    (sym (c.denominators_ok.ensures _) ∙ not-false _ c.if-not-denominators_ok.false-raw))
+    (fine _ _ _ _ (sym c.if-not-all_reduced.ensures)
+    (sym c.if-not-all_reduced-2.ensures)
+    (sym (c.denominators_ok.ensures _) ∙ c.if-not-denominators_ok.false))
     (ap (λ (x : Ext). done (element_words x)) c.write_sums.ensures.last)
     c.write_sums.ensures.sums
