@@ -1,10 +1,8 @@
 -- `batch_text::feed` meets its contract. The invariant: what is left of the part, read from the stage reached and into the words as they are, makes
 -- what is asked.
 use borrow.Author.Rules.{rules}
-use Prim.Native.Nat.{◌-◌, ◌≤◌}
-use mathlib.Core.Path.{◌≡◌, refl, sym, ap, ◌∙◌}
-use lib.ListN.{length, drop}
-use Rattle.batch_text.specs.Sheet.{Fed, feed_all, Within}
+use mathlib.Core.Path.{refl, sym, ap, ◌∙◌}
+use Rattle.batch_text.specs.Sheet.{Fed}
 use Rattle.batch_text.proofs.Feeding.{feed_more, feed_ends}
 use Rattle.batch_text.proofs.feed.Goals as goal
 

@@ -3,7 +3,6 @@ use native.Mathlib.Omega.{arith}
 use Rattle.text.proofs.Putting.{put_then}
 use Rattle.batch_text.specs.Table.{head_text}
 use Rattle.batch_text.proofs.Tables.{column_bound, put_more}
-use borrow.Author.Rules.{rules}
 use Rattle.batch_text.proofs.put_head.Goals as goal
 
 pub put_bytes-after_label-requires : goal.put_bytes-after_label-requires

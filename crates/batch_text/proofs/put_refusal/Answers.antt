@@ -3,7 +3,6 @@ use native.Mathlib.Omega.{arith}
 use Rattle.text.proofs.Putting.{put_then}
 use Rattle.batch_text.specs.Table.{refusal_line}
 use Rattle.batch_text.proofs.Tables.{column_bound, put_more, put_same, reason_setting, reason_job}
-use borrow.Author.Rules.{rules}
 use Rattle.batch_text.proofs.put_refusal.Goals as goal
 
 pub put_column-after_setting-requires : goal.put_column-after_setting-requires

@@ -3,7 +3,6 @@ use mathlib.Core.Path.{sym, ap, ◌∙◌}
 use Rattle.batches.specs.Batches.{trial_answer}
 use Rattle.batches.proofs.Answering.{trial_bounds}
 use Rattle.batch_text.proofs.Tables.{totals_due, refusal_due}
-use borrow.Author.Rules.{rules}
 use Rattle.batch_text.proofs.put_setting.Goals as goal
 
 pub put_totals-requires : goal.put_totals-requires

@@ -4,7 +4,6 @@ use Prim.Native.Nat.{◌/◌, ◌%◌}
 use Rattle.text.proofs.Putting.{put_then}
 use Rattle.batch_text.specs.Table.{share_text}
 use Rattle.batch_text.proofs.Tables.{column_bound, put_more}
-use borrow.Author.Rules.{rules}
 use Rattle.batch_text.proofs.put_share.Goals as goal
 
 pub put_column-after_whole-requires : goal.put_column-after_whole-requires

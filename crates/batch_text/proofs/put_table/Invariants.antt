@@ -1,11 +1,9 @@
 -- What the loop of `put_table` keeps, and what falls with each turn.
 use Prim.Native.Nat.{◌-◌, ◌≤◌}
-use native.Mathlib.Omega.{arith}
 use lib.ListN.{length}
-use Rattle.text.proofs.Putting.{Left, left_all, put_length}
+use Rattle.text.proofs.Putting.{Left}
 use Rattle.batch_text.specs.Table.{max_line, max_answer}
-use Rattle.batch_text.proofs.Tables.{head_bound, lines_from, table_goes_on, table_room, table_ends}
-use borrow.Author.Rules.{rules}
+use Rattle.batch_text.proofs.Tables.{lines_from}
 use Rattle.batch_text.proofs.put_table.Given as goal
 
 abbrev pub invariant-loop-i : goal.invariant-loop-i

@@ -1,6 +1,5 @@
 -- `batch_text::put_too_many` meets its contract: a line for either limit.
 use Rattle.batch_text.proofs.Tables.{put_same, too_many_settings, too_many_jobs}
-use borrow.Author.Rules.{rules}
 use Rattle.batch_text.proofs.put_too_many.Goals as goal
 
 pub returns-then-most : goal.returns-then-most

@@ -1,6 +1,5 @@
 -- `batch_text::share` meets its contract: nothing is divided by 0, and the product is a word.
 use Rattle.batch_text.proofs.Tables.{share_none, share_some}
-use borrow.Author.Rules.{rules}
 use Rattle.batch_text.proofs.share.Goals as goal
 
 pub returns-then-rows-padding-eq0 : goal.returns-then-rows-padding-eq0

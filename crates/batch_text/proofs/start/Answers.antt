@@ -1,5 +1,4 @@
 -- `batch_text::start` meets its contract.
-use borrow.Author.Rules.{rules}
 use Rattle.batch_text.proofs.start.Goals as goal
 
 pub returns : goal.returns
