@@ -30,19 +30,19 @@ def uncommented(text):
 
 def bare(name):
     """A name as it stands in a term: an operator without its places, a quoted name without its quotes."""
-    return name.strip("«»").strip("_")
+    return name.strip("«»").strip("◌")
 
 
 def tokens(text):
     """The names in a text; what follows a dot is a field, and no name. `X.name` is a name of the module that is called X here."""
     text = re.sub(r"(?<=[\s)])\.(?:«[^»]+»|[^\s(){};,]+)", " ", " " + text)
-    for quoted, word in re.findall(r"«([^»]+)»|([^\s(){}«»;,⌜⌝]+)", text):
+    for quoted, word in re.findall(r"«([^»]+)»|([^\s(){}«»;,]+)", text):
         if quoted:
             yield quoted
         else:
             word = word.rstrip(".")
             yield word
-            yield word.strip(".").strip("_")
+            yield word.strip(".").strip("◌")
 
 
 def imported(text):
@@ -145,12 +145,10 @@ def file_at(path):
 
 def place(module):
     """The file of a module of ours, "code" for what the code declares, None for the kit's library."""
-    found = re.match(r"Rattle·(\w+?)(?:·(?:specs|proofs))?\.(specs|proofs)\.(.*)", module)
-    if not found:
-        return "code" if module.startswith("Rattle·") else None
-    crate, part, rest = found.groups()
-    if not (CRATES / crate).is_dir():
+    found = re.match(r"Rattle\.(\w+)\.(specs|proofs)\.(.*)", module)
+    if not found or not (CRATES / found.group(1)).is_dir():
         return None
+    crate, part, rest = found.groups()
     if rest.startswith("declared."):
         return "code"
     path = CRATES / crate / part / (rest.replace(".", "/") + ".antt")
@@ -172,14 +170,16 @@ def contracts():
             found = re.match(r'^( *)pub (?:const )?(?:extern "C" )?fn (\w+)', line)
             if not found:
                 continue
-            clauses = []
+            clauses, deep = [], 0
             for later in lines[k:]:
                 if re.match(r"\s*(requires|ensures)\b", later):
                     clauses.append(later)
-                elif later.rstrip() == found.group(1) + "{" or (later.rstrip().endswith("{") and "⌜" not in later):
-                    break
-                elif clauses:
+                    deep = later.count("{") - later.count("}")
+                elif deep > 0:
                     clauses.append(later)
+                    deep += later.count("{") - later.count("}")
+                elif later.rstrip().endswith(("{", "}", ";")):
+                    break
             yield path, found.group(2), "\n".join(clauses)
 
 

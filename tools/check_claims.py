@@ -112,7 +112,7 @@ def unbelieved():
             listed["specs"].add(place)
         elif re.fullmatch(r"\w+/proofs/\S+\.antt", place):
             listed["proofs"].setdefault(place, set()).update(names.split(", "))
-        elif re.fullmatch(r"(Prim|mathlib|lib|native|prog|base|Rattle·\w+)(\.\w+)+", place):
+        elif names and re.fullmatch(r"\w+(\.\w+)+", place):
             listed["kit"].setdefault(place, set()).update(names.split(", "))
     due = {"specs": {}, "proofs": {}, "kit": kit}
     for path, names in ours.items():

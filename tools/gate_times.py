@@ -3,11 +3,13 @@
 
     tools/gate_times.py > gate.log
 
-Passes on what .ci/run prints. Then two lines more: the processor seconds (user and system, of all processes) of the whole gate and of its part up to the first must-fail
-edit, which is the check of all crates; and the minutes that it took. Ends with the gate's status; where that is 0, the line before these two is the gate's last one.
+Passes on what .ci/run prints. Then two lines more: the processor seconds (user and system, of all processes) of the whole gate and of its part up to the end of `rt ci`, the proofs,
+edits, programs and tests; and the minutes that it took. What an earlier `rt ci` on this machine kept is not proved again: the line `rt: ok` says how much was. Ends with the gate's
+status; where that is 0, the line before these two is the gate's last one.
 """
 import os
 import pathlib
+import re
 import resource
 import subprocess
 import sys
@@ -42,14 +44,14 @@ def main():
     gate = subprocess.Popen([ROOT / ".ci" / "run"], stdout=subprocess.PIPE, stderr=subprocess.STDOUT)
     proofs = None
     for line in gate.stdout:
-        if proofs is None and line.startswith(b"rt: must-fail"):
+        if proofs is None and re.match(rb"\d+ passed, \d+ failed", line):
             proofs = used(gate.pid)
         sys.stdout.buffer.write(line)
         sys.stdout.buffer.flush()
     status = gate.wait()
     spent = resource.getrusage(resource.RUSAGE_CHILDREN)
     whole = spent.ru_utime + spent.ru_stime
-    print(f"processor seconds: {whole:.0f} in all, {proofs or whole:.0f} of them up to the first must-fail edit")
+    print(f"processor seconds: {whole:.0f} in all, {proofs or whole:.0f} of them up to the end of rt ci")
     print(f"minutes: {(time.monotonic() - begun) / 60:.1f}")
     return status
 

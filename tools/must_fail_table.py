@@ -1,24 +1,26 @@
 #!/usr/bin/env python3
 """Makes docs/MUST-FAIL.md: each must-fail edit, what wrong program it makes, and the fact that fails first.
 
-    rt must-fail && tests/must-fail-more && tools/must_fail_table.py > page && mv page docs/MUST-FAIL.md
+    tools/must_fail_table.py LOG.. > page && mv page docs/MUST-FAIL.md
 
-Reads the edits' own comments and what the prover said of each (target/must-fail, target/must-fail-more). Ends with status 1 where an edit was not tried, and where its
-first error shows only that the proof no longer fits the code (a name or a field that is not there), which says nothing of the contract. With --keep an edit that was not tried
-here keeps the fact that the page names already: for use after the edits of some crates were tried.
+A LOG is what `rt must-fail`, `rt ci` or tests/must-fail-more printed: a line for each edit, with the first thing that the prover said. An edit that no LOG tells of keeps the fact
+that the page names already; a fact of the older kit keeps its mark too. Ends with status 1 where an edit has no fact yet, was not refused or could not be tried, and where its
+first error shows only that a proof no longer fits the code (a name that is not there), which says nothing of the contract.
 
     tools/must_fail_table.py --check
 
-compares the stored page with the folders: each edit stands in it, under its crate, with its own comment and its mark, no other does, and none names a path of a machine. The facts are taken from
-the page: they are known only once the edits were tried.
+compares the stored page with the folders, and runs nothing: each edit stands in it, under its crate, with its own comment and its mark, no other does, and none names a path of a
+machine. The facts are taken from the page: they are known only once the edits were tried.
 """
 import pathlib
 import re
 import sys
 
 ROOT = pathlib.Path(__file__).resolve().parent.parent
+PAGE = ROOT / "docs" / "MUST-FAIL.md"
 # first errors that show nothing
-SHAPE_ONLY = ("that can be named from here", "is not in scope", "has no field")
+SHAPE_ONLY = ("that can be named from here", "is not in scope", "has no field", "has no `")
+OLDER = " °"
 
 HEAD = """# Must-fail edits
 
@@ -26,8 +28,11 @@ Each line is a wrong program, or a wrong definition, that the prover refuses, an
 the fit of a proof. The gate tries those of the folders `must-fail` and fails if the prover accepts one; those of `must-fail-more`, marked with +, are tried
 by `tests/must-fail-more`, so that the gate stays short. Made by `tools/must_fail_table.py`.
 
-A fact is named by its proof: *function*: `returns` is that what the function ensures holds where it returns, `loop-again` that a loop keeps its
+A fact is named by its proof: *function*: `returns` is that what the function ensures holds where it returns, `loop-i-preserved` that the loop over i keeps its
 invariant, `NAME-requires` that what NAME requires holds where it is called; any other name is a lemma's. A `?` stands where an edit was not tried yet.
+
+A fact with ° is one that the older kit named: which fact fails first was not looked at anew since the edit was brought to today's language. Lemmas have today's names in it, goals those
+of that kit: `loop-again` was what is `loop-i-preserved` now, `loop-holds` what is `loop-i-init`.
 """
 
 
@@ -40,43 +45,51 @@ def comment(edit):
     return " ".join(words)
 
 
-def first_error(log, folder):
-    """The file, the declaration and the message of the first error that is no consequence of another."""
-    logged = log.read_text().splitlines()
-    for k, line in enumerate(logged):
-        found = re.match(r"(?:note: )?(\S+?):\d+:\d+: error: (.*)", line)
+def told(logs):
+    """What the prover said of each edit, by crate and edit: how the try ended, and the first error. The last LOG that tells of an edit counts."""
+    found = {}
+    for log in logs:
+        for line in log.read_text(errors="replace").splitlines():
+            line = re.match(r"(?:rt: )?must-fail (\w+)/([\w.-]+)\.edit: (.*)", line)
+            if line:
+                crate, edit, rest = line.groups()
+                refused = re.match(r"refused, as it must be(?: \([^)]*(?:\)[^:)]*)*\))?(?:: (.*))?$", rest)
+                found[crate, edit] = (bool(refused), (refused.group(1) or "") if refused else rest)
+    return found
+
+
+def function_at(path, number):
+    """The function whose item begins at a line or a few below it, with the type of its `impl`."""
+    lines = path.read_text().splitlines()
+    for k in range(number - 1, min(number + 9, len(lines))):
+        found = re.match(r'( *)(?:pub(?:\([^)]*\))? )?(?:const )?(?:unsafe )?(?:extern "C" )?fn (\w+)', lines[k])
         if found:
-            path, message = found.groups()
-            if logged[k + 1 :] and logged[k + 1].startswith("  "):
-                message += " " + logged[k + 1].strip()
-            if "was not admitted (it has holes" in message:
-                continue
-            named = re.match(r"`([^`]+)`: (.*)", message)
-            place = path.split(folder + "/", 1)[-1]
-            return place, named.group(1) if named else "", named.group(2) if named else message
-        found = re.match(r"note: (\S+?):(\d+):\d+: (it is not proved that .*?)(?: \(`([^`]+)`\))?$", line)
-        if found:
-            place = found.group(1).split(folder + "/", 1)[-1]
-            lines = (log.parent / place).read_text().splitlines()[int(found.group(2)) - 1 :]
-            named = re.search(r"\bfn (\w+)", "\n".join(lines[:3]))
-            return f"proofs/{named.group(1)}/Proof.antt" if named else place, found.group(4) or "", found.group(3)
+            above = (re.match(r"impl(?:<[^>]*>)? (?:.* for )?(\w+)", line) for line in reversed(lines[:k]))
+            owner = next((a.group(1) for a in above if a), None) if found.group(1) else None
+            return f"{owner}::{found.group(2)}" if owner else found.group(2)
     return None
 
 
-def fact(place, name):
-    """The fact in words: the function's or the module's name and the declaration."""
-    parts = place.split("/")
-    if parts[-1] == "Proof.antt":
-        return f"*{'::'.join(parts[1:-1])}*: `{name}`"
-    if parts[0] == "src":
-        return f"`{place}`" + (f": `{name}`" if name else "")
-    return f"`{'/'.join(parts)}`: `{name}`" if name else f"`{place}`"
+def fact(crate, said):
+    """The fact in words: the function's or the module's name and the goal or the declaration."""
+    found = re.match(r"(?:note: )?(?:\./)?(\S+?):(\d+):\d+: (?:error(?:\[[\w-]+\])?: )?(.*)", said)
+    if not found:
+        return f"`{said[:80].strip('`')}`"
+    place, number, message = found.groups()
+    goal = re.search(r"\(`([^`]+)`?\)?", message) if "it is not proved that" in message else None
+    if goal:
+        function = function_at(ROOT / "crates" / crate / place, int(number)) if place.startswith("src/") else None
+        return f"*{function}*: `{goal.group(1)}`" if function else f"`{place}`: `{goal.group(1)}`"
+    named = re.match(r"`([^`]+)`: ", message)
+    if re.match(r"proofs/.*/(?:Answers|Invariants|Proof)\.antt$", place):
+        return f"*{'::'.join(place.split('/')[1:-1])}*" + (f": `{named.group(1)}`" if named else "")
+    return f"`{place}`" + (f": `{named.group(1)}`" if named else "")
 
 
 def kept():
     """The facts that the page names already, by crate and edit."""
     facts, crate = {}, ""
-    for line in (ROOT / "docs" / "MUST-FAIL.md").read_text().splitlines():
+    for line in PAGE.read_text().splitlines():
         if line.startswith("## "):
             crate = line[3:].strip()
         cells = line.split(" | ")
@@ -87,8 +100,8 @@ def kept():
 
 def check():
     """What the page has that the folders have not, and the reverse."""
-    stored = (ROOT / "docs" / "MUST-FAIL.md").read_text()
-    made, _ = page(kept(), tried=False)
+    stored = PAGE.read_text()
+    made, _ = page(kept(), {})
     stored_lines, made_lines = (places(text) for text in (stored, made))
     wrong = [f"{where}, which is in the page but not in the folders: {line}" for where, line in sorted(stored_lines - made_lines)]
     wrong += [f"{where}, which is in the folders but not in the page: {line}" for where, line in sorted(made_lines - stored_lines)]
@@ -107,55 +120,52 @@ def places(text):
     return found
 
 
-def page(before, tried=True):
-    """The page, and what is wrong with it. `before` has the facts of edits that were not tried here; with `tried` false all are taken from there."""
+def page(before, tries):
+    """The page, and what is wrong with it. `before` has the facts that the page names already, `tries` what the logs tell."""
     bad = []
     out = [HEAD]
-    count = 0
-    order = [l.split(":")[0].strip() for l in (ROOT / "crates.txt").read_text().splitlines() if ":" in l and not l.startswith("#")]
+    count = older = 0
+    order = [l.split(":")[0].split()[0] for l in (ROOT / "crates.txt").read_text().splitlines() if ":" in l and not l.startswith("#")]
     for crate in order:
         edits = sorted((ROOT / "crates" / crate).glob("must-fail*/*.edit"), key=lambda e: e.stem)
         if not edits:
             continue
         out.append(f"## {crate}\n\n| edit | the wrong program | the fact that fails |\n|---|---|---|")
         for edit in edits:
-            log = ROOT / "target" / edit.parent.name / crate / edit.stem / ".log"
-            error = first_error(log, f"/{crate}/{edit.stem}") if tried and log.is_file() else None
-            more = "" if edit.parent.name == "must-fail" else " +"
-            if error is None and (crate, edit.stem) in before:
-                count += 1
-                out.append(f"| {edit.stem}{more} | {comment(edit)} | {before[crate, edit.stem]} |")
-                continue
-            if error is None:
+            refused, said = tries.get((crate, edit.stem), (True, ""))
+            known = before.get((crate, edit.stem), "?")
+            if not refused or any(words in said for words in SHAPE_ONLY):
+                bad.append(f"{crate}/{edit.stem}: {said[:100]}")
+            elif said:
+                known = fact(crate, said)
+            if known == "?":
                 bad.append(f"{crate}/{edit.stem}: not tried, or no error found")
-                if not tried:
-                    count += 1
-                    out.append(f"| {edit.stem}{more} | {comment(edit)} | ? |")
-                continue
-            place, name, message = error
-            if any(words in message for words in SHAPE_ONLY):
-                bad.append(f"{crate}/{edit.stem}: {message[:100]}")
             count += 1
-            out.append(f"| {edit.stem}{more} | {comment(edit)} | {fact(place, name)} |")
+            older += known.endswith(OLDER)
+            more = "" if edit.parent.name == "must-fail" else " +"
+            out.append(f"| {edit.stem}{more} | {comment(edit)} | {known} |")
         out.append("")
     out.append(
-        f"{count} edits. The first error names the goal, or the two sides that do not agree, or says that a rewriting step finds nothing to rewrite, since what is\n"
-        "stated has changed. In none is it a name that is missing."
+        f"{count} edits, {older} of them with a fact of the older kit. The first error names the goal, or the two sides that do not agree, or says that a rewriting step finds nothing\n"
+        "to rewrite, since what is stated has changed. In none is it a name that is missing."
     )
     return "\n".join(out) + "\n", bad
 
 
-def main():
-    if sys.argv[1:] == ["--check"]:
+def main(args):
+    if args == ["--check"]:
         wrong = check()
         for line in wrong:
             print(f"docs/MUST-FAIL.md is not current: {line[:200]}")
         return 1 if wrong else 0
-    text, bad = page(kept() if "--keep" in sys.argv[1:] else {})
+    if not args or args[0].startswith("-"):
+        sys.exit(__doc__)
+    text, bad = page(kept(), told(map(pathlib.Path, args)))
     sys.stdout.write(text)
     for line in bad:
         print(line, file=sys.stderr)
     return 1 if bad else 0
 
 
-sys.exit(main())
+if __name__ == "__main__":
+    sys.exit(main(sys.argv[1:]))

@@ -53,8 +53,8 @@ def crates():
     for line in (ROOT / "crates.txt").read_text().splitlines():
         line = line.split("#")[0].strip()
         if line:
-            name, rest = line.split(":")
-            named[name.strip()] = rest.split()
+            head, rest = line.split(":")
+            named[head.split()[0]] = rest.split()  # what else stands before the colon says how the crate is built
     return {name: [d for d in rest if d in named] for name, rest in named.items()}
 
 

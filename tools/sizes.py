@@ -4,7 +4,7 @@
     tools/sizes.py           a line for each crate, then the sums
     tools/sizes.py --sum     the sums alone, as README.md gives them
 
-`theory` is the proofs of laws, `walks` those of single functions (a folder each), most of whose lines name what the prover asks.
+`theory` is the proofs of laws, `functions` the invariants and answers of single functions (a folder each).
 """
 import pathlib
 import sys
@@ -24,12 +24,11 @@ def lines(files):
 
 
 def sizes(crate):
-    proofs = list((crate / "proofs").rglob("*.antt"))
     return [
         lines(crate.glob("src/*.rt")),
         lines(crate.glob("specs/*.antt")),
-        lines(p for p in proofs if p.name != "Proof.antt"),
-        lines(p for p in proofs if p.name == "Proof.antt"),
+        lines(crate.glob("proofs/*.antt")),
+        lines(crate.glob("proofs/*/**/*.antt")),
         len(list(crate.glob("must-fail*/*.edit"))),
     ]
 
@@ -44,12 +43,12 @@ def main(args):
         for i, n in enumerate(numbers):
             into[i] += n
         rows.append((crate.name, numbers))
-    shown = [("", ["code", "specs", "theory", "walks", "edits"])]
+    shown = [("", ["code", "specs", "theory", "functions", "edits"])]
     if args != ["--sum"]:
         shown += rows
     shown += [("library and programs", total), ("tests, measurements", tests)]
     for name, numbers in shown:
-        print(f"{name:24}" + "".join(f"{n:>8}" for n in numbers))
+        print(f"{name:24}" + "".join(f"{n:>10}" for n in numbers))
 
 
 main(sys.argv[1:])

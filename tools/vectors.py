@@ -6,21 +6,35 @@
     tools/vectors.py CALLS.jsonl tables > tests/vectors/tables.jsonl
     tools/vectors.py CALLS.jsonl checks > tests/vectors/checks.jsonl
 
+    tools/vectors.py numbers lists > crates/vectors_lists/stdin
+    tools/vectors.py numbers tables > crates/vectors_table/stdin
+    tools/vectors.py numbers checks > crates/vectors_check/stdin
+
 CALLS.jsonl has single calls of document 01 with their answer and every array after the call, one JSON object a line. It is not here: 1,078 lines,
-951,719 bytes, with the sha256 sum e65f32c3547678d5451e727d1a89fd549fd06f80933a5a21b3a08bb4a43565f0. From that file the four commands make the stored
+951,719 bytes, with the sha256 sum e65f32c3547678d5451e727d1a89fd549fd06f80933a5a21b3a08bb4a43565f0. From that file the first four commands make the stored
 files to the last byte. The calls that a change request answers otherwise are left out. What the calls leave out, and edges, are added here; their
 answers are computed by the few lines of arithmetic below, which share nothing with the library.
 
-Elements have no C function: theirs are numbers, a line a call, the first of which is the kind of the line, and the program vectors_field runs them. All
-others are JSON lines of the form of CALLS.jsonl, and are run through the C functions (tests/ffi/vectors.py), as are the other files of tests/vectors.
+The last three need tests/vectors alone, and make the stored files to the last byte too. They write calls as numbers, a line a call, the first of which is the kind of
+the line, for the programs vectors_lists, vectors_table and vectors_check, which read numbers and no JSON: those of lists.jsonl, request-07.jsonl and
+recorded-lists.jsonl, of tables.jsonl and filled-tables.jsonl, of checks.jsonl and named-tables.jsonl. crates/vectors_text/stdin is tests/vectors/texts.packed, which
+tests/pack-cases made of cases that came from outside too, and vectors_digests makes its own input.
+
+Elements have no C function: theirs are numbers alone, and the program vectors_field runs them. The JSON lines have the form of CALLS.jsonl, and are run through the C
+functions too (tests/ffi/vectors.py), as are the other files of tests/vectors.
 Of these request-NN.jsonl has calls as change request NN has them: 1 replays, 2 client's sums, 3 lookups, 6 holds, 7 bases of pow, 10 archives, 11 two
 recorders, 12 batches. request-07.jsonl has those calls of the request's file that take at most 6,000 characters, and the shortest one of each call and
 answer that would have none; request-11.jsonl has those that take at most 800, and the shortest of each in the same way. From request-06.jsonl and
 request-07.jsonl the calls that request 11 answers otherwise are taken out, 18 and 20. The others have the original Rust's answers (tools/filled_tables.py,
 tools/named_tables.py and tools/recorded_lists.py make them).
 """
+import contextlib
+import io
 import json
+import pathlib
 import sys
+
+STORED = pathlib.Path(__file__).resolve().parent.parent / "tests" / "vectors"
 
 P = 2**64 - 2**32 + 1
 
@@ -61,7 +75,9 @@ def line(*numbers):
     flat = []
     for n in numbers:
         flat.extend(n if isinstance(n, list) else [n])
-    print(" ".join(str(int(n)) for n in flat))
+    text = " ".join(str(int(n)) for n in flat)
+    assert len(text) < 65536  # a program runs no line that is longer than its buffer
+    print(text)
 
 
 # kind 1: a b, then new value add sub neg mul inverse is_zero equals
@@ -412,6 +428,10 @@ def counted_edges():
 
 def lists(calls):
     as_they_are(calls, ("record", "compare", "plan", "read", "write"))
+    edges()
+
+
+def edges():
     list_edges()
     stored_edges()
     base_edges()
@@ -490,12 +510,123 @@ def changed_to_10(call):
     return False
 
 
+# ---- numbers
+# A list is: capacity, used, the number of key words and they, the number of multiplicities and they. An answer is document 01's number, 0
+# for done, and one value, 0 where there is none; the plan has two values.
+def array(words):
+    return [len(words)] + words
+
+
+# The programs have buffers of 64 words for a list's arrays and of 512 bytes; what is longer would be cut there.
+def some_bytes(digits):
+    data = list(bytes.fromhex(digits))
+    assert len(data) <= 512
+    return array(data)
+
+
+def list_of(numbers):
+    assert max(len(numbers["keys"]), len(numbers["mults"])) <= 64
+    return [int(numbers["capacity"]), int(numbers["used"])] + array(ints(numbers["keys"])) + array(ints(numbers["mults"]))
+
+
+def answer_of(call, values):
+    kind, value = call["answer"]
+    if kind == "refused":
+        return [int(value)] + [0] * values
+    got = value if isinstance(value, list) else [value]
+    return [0] + ints(got)
+
+
+def list_after(after):
+    return [int(after["capacity"]), int(after["used"])] + ints(after["keys"]) + ints(after["mults"])
+
+
+# kind 1, record: list, entry; answer with the position; sizes, keys and multiplicities after it
+# kind 2, compare: two entries; 0 less, 1 equal, 2 greater
+# kind 3, plan: list; answer with height and padded height
+# kind 4, read: list, bytes; answer with N; sizes, keys and multiplicities after it
+# kind 5, write: list, the bytes of out; answer with the length; out after it
+def list_line(call):
+    numbers, after = call["in"], call["after"]
+    which = call["call"]
+    if which == "record":
+        line(1, list_of(numbers), ints(numbers["entry"]), answer_of(call, 1), list_after(after))
+    if which == "compare":
+        line(2, ints(numbers["a"]), ints(numbers["b"]), int(call["answer"][1]) + 1)
+    if which == "plan":
+        line(3, list_of(numbers), answer_of(call, 2))
+    if which == "read":
+        line(4, list_of(numbers), some_bytes(numbers["bytes"]), answer_of(call, 1), list_after(after))
+    if which == "write":
+        line(5, list_of(numbers), some_bytes(numbers["out"]), answer_of(call, 1), list(bytes.fromhex(after["out"])))
+
+
+# kind 1, fill: list, table; answer with the height; table after it
+# kind 2, pad: table, filled count; answer; table after it
+# kind 3, extend: table, aux, challenges; answer with three words; aux after it
+# kind 4, run: list, table, aux, challenges; answer, 0 for zero; table and aux after it
+def table_line(call):
+    numbers, after = call["in"], call["after"]
+    which = call["call"]
+    if which == "fill":
+        line(1, list_of(numbers), array(ints(numbers["table"])), answer_of(call, 1), ints(after["table"]))
+    if which == "pad":
+        number = 0 if call["answer"][0] == "ok" else int(call["answer"][1])
+        line(2, array(ints(numbers["table"])), int(numbers["filled"]), number, ints(after["table"]))
+    if which == "extend":
+        arrays = [array(ints(numbers[k])) for k in ("table", "aux", "challenges")]
+        line(3, *arrays, answer_of(call, 3), ints(after["aux"]))
+    if which == "run":
+        arrays = [array(ints(numbers[k])) for k in ("table", "aux", "challenges")]
+        number = 0 if call["answer"] == ["ok", "zero"] else int(call["answer"][1])
+        line(4, list_of(numbers), *arrays, number, ints(after["table"]), ints(after["aux"]))
+
+
+# kind 1, check: table, aux, challenges; document 01's number, then group, row, index and three words, all 0 for zero, and 1 for nonzero in
+# front of them
+def check_line(call):
+    numbers = call["in"]
+    kind, value = call["answer"]
+    if kind == "refused":
+        answer = [int(value), 0] + [0] * 6
+    elif value == "zero":
+        answer = [0, 0] + [0] * 6
+    else:
+        answer = [0, 1] + ints(value[:3]) + ints(value[3])
+    line(1, array(ints(numbers["table"])), array(ints(numbers["aux"])), array(ints(numbers["challenges"])), answer)
+
+
+def stored_calls(name):
+    with open(STORED / f"{name}.jsonl") as f:
+        return list(map(json.loads, f))
+
+
+# The edges of the lists, which lists.jsonl ends with, come last here too
+def list_calls():
+    with contextlib.redirect_stdout(io.StringIO()) as made:
+        edges()
+    last = list(map(json.loads, made.getvalue().splitlines()))
+    calls = stored_calls("lists")
+    assert calls[-len(last) :] == last
+    return calls[: -len(last)] + stored_calls("request-07") + stored_calls("recorded-lists") + last
+
+
+NUMBERS = {
+    "lists": (list_line, list_calls),
+    "tables": (table_line, lambda: stored_calls("tables") + stored_calls("filled-tables")),
+    "checks": (check_line, lambda: stored_calls("checks") + stored_calls("named-tables")),
+}
 WHICH = {"field": field, "lists": lists, "checks": checks, "tables": tables}
 
 
 def main():
-    if len(sys.argv) != 3 or sys.argv[2] not in WHICH:
+    if len(sys.argv) != 3 or sys.argv[2] not in (NUMBERS if sys.argv[1] == "numbers" else WHICH):
         sys.exit(__doc__)
+    if sys.argv[1] == "numbers":
+        write, calls = NUMBERS[sys.argv[2]]
+        for call in calls():
+            write(call)
+        return
     with open(sys.argv[1]) as f:
         WHICH[sys.argv[2]]([call for call in map(json.loads, f) if not changed(call)])
 

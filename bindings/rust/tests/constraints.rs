@@ -4,10 +4,10 @@ use std::path::Path;
 use u32_table::{check, column, Group, Opcode, Verdict};
 
 const GROUPS: [(Group, &str, usize); 4] = [
-    (Group::Initial, "initialConstraints", 1),
-    (Group::Consistency, "consistencyConstraints", 15),
-    (Group::Transition, "transitionConstraints", 22),
-    (Group::Terminal, "terminalConstraints", 2),
+    (Group::Initial, "initial_constraints", 1),
+    (Group::Consistency, "consistency_constraints", 15),
+    (Group::Transition, "transition_constraints", 22),
+    (Group::Terminal, "terminal_constraints", 2),
 ];
 
 #[test]
@@ -17,7 +17,11 @@ fn names_are_those_of_the_definitions() {
     for (group, list, count) in GROUPS {
         let start = text.find(&format!("\n{list} ")).unwrap();
         let definition = text[start + 1..].split("\n\n").next().unwrap();
-        let names: Vec<&str> = definition.split('«').skip(1).map(|rest| rest.split('»').next().unwrap()).collect();
+        let listed = definition.split_once('=').unwrap().1.split('∷');
+        let names: Vec<&str> = listed
+            .map(|each| each.trim().trim_start_matches("base_value (").split_whitespace().next().unwrap())
+            .filter(|&name| name != "[]")
+            .collect();
         assert_eq!(group.constraints(), names);
         assert_eq!(names.len(), count);
     }
