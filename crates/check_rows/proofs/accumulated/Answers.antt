@@ -1,5 +1,4 @@
 -- `check_rows::accumulated` meets its contract: the value is made as it is asked for. Assumes nothing.
-use mathlib.Core.Path.{refl}
 use Rattle.check_rows.proofs.accumulated.Goals as goal
 
 pub returns : goal.returns

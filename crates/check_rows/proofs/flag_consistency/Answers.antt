@@ -1,5 +1,4 @@
 -- `check_rows::flag_consistency` meets its contract: each answer is made as its definition says. Assumes nothing.
-use mathlib.Core.Path.{refl}
 use Rattle.air.specs.Constraints.{copy_flag_is_bit}
 use Rattle.air.specs.Constraints.{copy_flag_is_0_or_bits_is_0}
 use Rattle.air.specs.Constraints.{bits_minus_33_inv_is_inverse_of_bits_minus_33}

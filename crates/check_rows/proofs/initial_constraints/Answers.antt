@@ -1,5 +1,4 @@
 -- `check_rows::initial_constraints` meets its contract: the value is made as its definition says. Assumes nothing.
-use mathlib.Core.Path.{refl}
 use Rattle.air.specs.Constraints.{initial_constraints, running_sum_log_derivative_starts_correctly}
 use Rattle.table.specs.Layouts.{row_of}
 use Rattle.check_rows.proofs.initial_constraints.Goals as goal

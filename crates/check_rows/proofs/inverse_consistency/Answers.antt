@@ -1,5 +1,4 @@
 -- `check_rows::inverse_consistency` meets its contract: each answer is made as its definition says. Assumes nothing.
-use mathlib.Core.Path.{refl}
 use Rattle.air.specs.Constraints.{one_minus_product_of}
 use Rattle.check_rows.proofs.inverse_consistency.Goals as goal
 

@@ -1,5 +1,4 @@
 -- `check_rows::result_consistency` meets its contract: each answer is the product that is asked for, in another order where products are shared. Assumes nothing.
-use mathlib.Core.Path.{refl}
 use Rattle.check_rows.proofs.Products.{shared_lt, shared_and, shared_log, shared_crash}
 use Rattle.check_rows.proofs.result_consistency.Goals as goal
 

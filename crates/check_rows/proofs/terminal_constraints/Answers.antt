@@ -1,5 +1,4 @@
 -- `check_rows::terminal_constraints` meets its contract: both constraints are made as their definitions say. Assumes nothing.
-use mathlib.Core.Path.{refl}
 use Rattle.air.specs.Constraints.{terminal_constraints, lhs_is_0_or_ci_is_pow, rhs_is_0}
 use Rattle.table.specs.Layouts.{row_of}
 use Rattle.check_rows.proofs.terminal_constraints.Goals as goal
