@@ -21,13 +21,10 @@ unfolding section_list
 fill_counted-requires c =
     let j = held_height _ _ (sym c.in-Height.is ∙ c.judge_held.ensures) in
     let fits = (held_shaped _ (held_told _ j.0).0).list in
-    let within = fits.within in let all = (
-      (omega (arith, within, fits.small), omega (arith, within, fits.keys), omega (arith, within, fits.multiplicities)),
-      (held_judged _ j.0, omega arith),
-    ) in record {
-      used_le_max_places = all.0;
-      multiplicities_value = all.1.0;
-      multiplicities_in_bounds = all.1.1;
+    let within = fits.within in record {
+      used_le_max_places = (omega (arith, within, fits.small), omega (arith, within, fits.keys), omega (arith, within, fits.multiplicities));
+      multiplicities_value = held_judged _ j.0;
+      multiplicities_in_bounds = omega arith;
     }
 
 pub returns-in-Refused : goal.returns-in-Refused

@@ -102,11 +102,8 @@ pub returns-in_default : goal.returns-in_default
 unfolding multiplicity_at
 returns-in_default c =
     let l = u32_list c.args.sizes c.args.keys.now c.args.multiplicities.now in
-    let same = ap (λ (y : U32TableEntry). section y (multiplicity_at l c.loop-place.place)) (at_place l _ (c.key_at.ensures _ _) c.admit.ensures c.in-Admitted.is) in let all =
-    absurd (has_value l c.requires.multiplicities_value _ c.loop-place-test.true same c.fill_entry.ensures.value c.in_default.is) in record {
-      value = all.0;
-      table_after = all.1;
-    }
+    let same = ap (λ (y : U32TableEntry). section y (multiplicity_at l c.loop-place.place)) (at_place l _ (c.key_at.ensures _ _) c.admit.ensures c.in-Admitted.is) in
+    absurd (has_value l c.requires.multiplicities_value _ c.loop-place-test.true same c.fill_entry.ensures.value c.in_default.is)
 
 pub overflow_add-row : goal.overflow_add-row
 overflow_add-row c =
@@ -119,14 +116,11 @@ shape_of-table-in-Refused c = c.loop-place.invariant.1
 
 pub returns-in-Refused : goal.returns-in-Refused
 returns-in-Refused c =
-    let l = u32_list c.args.sizes c.args.keys.now c.args.multiplicities.now in let all =
+    let l = u32_list c.args.sizes c.args.keys.now c.args.multiplicities.now in
     absurd
     (fine_not_declined
     (sym ((list_admitted l c.requires.multiplicities_value).entry _ c.loop-place-test.true)
-    ∙ refused_told (c.key_at.ensures _ _) c.admit.ensures c.in-Refused.is)) in record {
-      value = all.0;
-      table_after = all.1;
-    }
+    ∙ refused_told (c.key_at.ensures _ _) c.admit.ensures c.in-Refused.is))
 
 pub loop-place-preserved : goal.loop-place-preserved
 unfolding multiplicity_at
