@@ -8,7 +8,6 @@ use lib.ListN.{length}
 use Rattle.words.specs.LittleEndian.{le}
 use Rattle.words.specs.Places.{places}
 use Rattle.words.proofs.Places.{map_cong, flat_cong}
-use Rattle.isa.specs.declared.U32TableEntry.{U32TableEntry}
 use Rattle.list.specs.Lists.{U32List, used, multiplicity_at, entry_at}
 use Rattle.list.specs.Heights.{entries_at, list_height}
 use Rattle.list.specs.Holds.{HeldList, section_list}

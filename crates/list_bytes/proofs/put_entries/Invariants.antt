@@ -1,18 +1,13 @@
 -- What the loop of `put_entries` keeps, and what falls with each turn.
 use Prim.Native.Nat.{ℕ, ◌≤◌, ◌-◌, ◌+◌, ◌*◌}
-use mathlib.Core.Path.{◌≡◌, refl, sym, ap, ◌∙◌}
+use mathlib.Core.Path.{◌≡◌}
 use mathlib.Core.List.{List, flat_map}
-use native.Mathlib.Nat.{sub-zero, add-zero}
-use borrow.Author.Rules.{rules}
 use lib.ListN.{length}
 use lib.Seq.{sets}
 use Rattle.words.specs.Places.{places_from, places}
-use Rattle.words.proofs.Places.{flat_turn, flat_done}
-use Rattle.isa.specs.declared.U32TableEntry.{U32TableEntry}
 use Rattle.list.specs.declared.Sizes.{Sizes}
 use Rattle.list.specs.Lists.{u32_list, entry_at}
 use Rattle.list_bytes.specs.Packed.{key_width, key_bytes}
-use Rattle.list_bytes.proofs.Format.{length_key}
 use Rattle.list_bytes.proofs.put_entries.Given as goal
 
 -- the bytes of the entry at place i

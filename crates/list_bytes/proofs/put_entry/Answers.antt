@@ -3,7 +3,6 @@ use Prim.Native.Nat.{◌+◌}
 use mathlib.Core.Path.{sym, ◌∙◌}
 use mathlib.Core.List.{◌++◌}
 use native.Mathlib.Omega.{arith}
-use borrow.Author.Rules.{rules}
 use Rattle.words.specs.LittleEndian.{le}
 use Rattle.words.proofs.LittleEndian.{length_le}
 use Rattle.words.proofs.Sets.{sets_then}

@@ -1,7 +1,6 @@
 -- `list_bytes::put_list` meets its contract: the four parts of the stored form, stored one after the other. Assumes nothing.
 use Prim.Native.Nat.{◌*◌}
 use mathlib.Core.Path.{sym, ap, ◌∙◌}
-use borrow.Author.Rules.{rules}
 use lib.Seq.{sets}
 use Rattle.list.specs.Lists.{u32_list, entry_at, multiplicity_at}
 use Rattle.list_bytes.specs.Packed.{key_width, multiplicity_width}

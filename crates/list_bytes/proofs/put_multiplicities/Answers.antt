@@ -1,17 +1,12 @@
 -- `list_bytes::put_multiplicities` meets its contract. The loop's invariant: what is to be stored in all is what is left to be stored, from place i
 -- on, in the bytes as they are. It is said of every list with these multiplicities. Assumes nothing.
-use Prim.Native.Nat.{ℕ, ◌≤◌, ◌-◌, ◌+◌, ◌*◌}
-use mathlib.Core.Path.{◌≡◌, refl, sym, ap, ◌∙◌}
-use mathlib.Core.List.{List, flat_map}
+use Prim.Native.Nat.{◌+◌, ◌*◌}
+use mathlib.Core.Path.{refl, sym, ap, ◌∙◌}
 use native.Mathlib.Nat.{sub-zero, add-zero}
 use borrow.Author.Rules.{rules}
-use lib.ListN.{length}
 use lib.Seq.{sets}
-use Rattle.words.specs.LittleEndian.{le}
-use Rattle.words.specs.Places.{places_from, places}
 use Rattle.words.proofs.LittleEndian.{length_le}
 use Rattle.words.proofs.Places.{flat_turn, flat_done}
-use Rattle.list.specs.declared.Sizes.{Sizes}
 use Rattle.list.specs.Lists.{u32_list, multiplicity_at}
 use Rattle.list_bytes.specs.Packed.{multiplicity_width}
 use Rattle.list_bytes.proofs.put_multiplicities.Invariants.{block}

@@ -1,15 +1,11 @@
 -- What the loop of `put_multiplicities` keeps, and what falls with each turn.
 use Prim.Native.Nat.{ℕ, ◌≤◌, ◌-◌, ◌+◌, ◌*◌}
-use mathlib.Core.Path.{◌≡◌, refl, sym, ap, ◌∙◌}
+use mathlib.Core.Path.{◌≡◌}
 use mathlib.Core.List.{List, flat_map}
-use native.Mathlib.Nat.{sub-zero, add-zero}
-use borrow.Author.Rules.{rules}
 use lib.ListN.{length}
 use lib.Seq.{sets}
 use Rattle.words.specs.LittleEndian.{le}
 use Rattle.words.specs.Places.{places_from, places}
-use Rattle.words.proofs.LittleEndian.{length_le}
-use Rattle.words.proofs.Places.{flat_turn, flat_done}
 use Rattle.list.specs.declared.Sizes.{Sizes}
 use Rattle.list.specs.Lists.{u32_list, multiplicity_at}
 use Rattle.list_bytes.specs.Packed.{multiplicity_width}

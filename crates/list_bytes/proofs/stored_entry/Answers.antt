@@ -1,5 +1,4 @@
 -- `list_bytes::stored_entry` meets its contract: the three words are read at the entry's offsets. Assumes nothing.
-use borrow.Author.Rules.{rules}
 use Rattle.isa.proofs.Comparing.{entries_same}
 use Rattle.list_bytes.specs.Packed.{stored_entry}
 use Rattle.list_bytes.proofs.stored_entry.Goals as goal

@@ -1,5 +1,4 @@
 -- `list_bytes::stored_height` meets its contract: `half_at` reads the height. Assumes nothing.
-use borrow.Author.Rules.{rules}
 use Rattle.list_bytes.specs.Packed.{stored_height}
 use Rattle.list_bytes.proofs.stored_height.Goals as goal
 

@@ -3,7 +3,6 @@ use Prim.Native.Nat.{ℕ, ◌+◌, ◌*◌, ◌≤◌}
 use mathlib.Core.Path.{◌≡◌, subst, ◌∙◌}
 use mathlib.Core.List.{List}
 use native.Mathlib.Omega.{arith}
-use borrow.Author.Rules.{rules}
 use lib.ListN.{length}
 use Rattle.words.specs.LittleEndian.{le_at}
 use Rattle.list_bytes.specs.Packed.{keys_end, multiplicity_width, old_multiplicity_width, length_with, old_length, width_of, stored_n, stored_multiplicity}

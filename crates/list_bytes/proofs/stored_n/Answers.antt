@@ -1,5 +1,4 @@
 -- `list_bytes::stored_n` meets its contract: `half_at` reads the number. Assumes nothing.
-use borrow.Author.Rules.{rules}
 use Rattle.list_bytes.specs.Packed.{stored_n}
 use Rattle.list_bytes.proofs.stored_n.Goals as goal
 

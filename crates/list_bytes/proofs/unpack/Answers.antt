@@ -1,13 +1,12 @@
 -- `list_bytes::unpack` meets its contract. The loop's invariant: what is to be stored in all is what is left to be stored, from place i on, in the
 -- arrays as they are. Assumes nothing.
-use Prim.Native.Nat.{ℕ, ◌≤◌, ◌<◌, ◌-◌, ◌+◌, ◌*◌}
-use mathlib.Core.Path.{◌≡◌, refl, sym, ap, ◌∙◌}
-use mathlib.Core.List.{List, map, flat_map}
+use Prim.Native.Nat.{ℕ, ◌≤◌, ◌<◌, ◌+◌, ◌*◌}
+use mathlib.Core.Path.{refl, sym, ap, ◌∙◌}
+use mathlib.Core.List.{List, map}
 use native.Mathlib.Nat.{sub-zero, zero-add}
 use borrow.Author.Rules.{rules}
-use lib.ListN.{length, length-set}
+use lib.ListN.{length-set}
 use lib.Seq.{sets}
-use Rattle.words.specs.Places.{places_from, places}
 use Rattle.words.proofs.Places.{flat_turn, flat_done, map_turn, places_done}
 use Rattle.isa.specs.Entries.{entry_words, entry_width}
 use Rattle.list_bytes.specs.Packed.{stored_entry, stored_multiplicity}

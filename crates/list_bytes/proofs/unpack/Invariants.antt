@@ -1,13 +1,10 @@
 -- What the loop of `unpack` keeps, and what falls with each turn.
-use Prim.Native.Nat.{ℕ, ◌≤◌, ◌<◌, ◌-◌, ◌+◌, ◌*◌}
-use mathlib.Core.Path.{◌≡◌, refl, sym, ap, ◌∙◌}
-use mathlib.Core.List.{List, map, flat_map}
-use native.Mathlib.Nat.{sub-zero, zero-add}
-use borrow.Author.Rules.{rules}
-use lib.ListN.{length, length-set}
+use Prim.Native.Nat.{◌≤◌, ◌-◌, ◌+◌, ◌*◌}
+use mathlib.Core.Path.{◌≡◌}
+use mathlib.Core.List.{map, flat_map}
+use lib.ListN.{length}
 use lib.Seq.{sets}
 use Rattle.words.specs.Places.{places_from, places}
-use Rattle.words.proofs.Places.{flat_turn, flat_done, map_turn, places_done}
 use Rattle.isa.specs.Entries.{entry_words, entry_width}
 use Rattle.list_bytes.specs.Packed.{stored_entry, stored_multiplicity}
 use Rattle.list_bytes.proofs.unpack.Given as goal

@@ -1,6 +1,6 @@
 -- `list_repeats::has_repeats` meets its contract. Outer loop: no two of the keys passed are equal, and each one's place is on the chain of its bucket.
 -- Inner loop: a place on the chain whose key may be equal to the key at place i is still ahead. A chain leads back, so it ends. Assumes nothing.
-use Prim.Native.Nat.{ℕ, ◌≤◌, ◌-◌, ◌+◌, ◌<◌}
+use Prim.Native.Nat.{ℕ, ◌-◌, ◌+◌, ◌<◌}
 use mathlib.Core.Path.{◌≡◌, refl, sym, ap, ◌∙◌}
 use mathlib.Core.List.{List}
 use native.Mathlib.Omega.{arith}
@@ -9,8 +9,8 @@ use lib.ListN.{length, get_or, length-set}
 use Rattle.words.specs.Limits.{max_places}
 use Rattle.list.specs.declared.Sizes.{Sizes}
 use Rattle.list.specs.Lists.{u32_list, entry_at}
-use Rattle.list_repeats.proofs.Repeats.{Distinct, distinct_none, distinct_more, no_repeat, repeat_at}
-use Rattle.list_repeats.proofs.Chains.{buckets, zeros, Back, Chained, chained_more, back_more, low_more, bucket_of, Ahead, ahead_more, new_key, same_told}
+use Rattle.list_repeats.proofs.Repeats.{distinct_none, distinct_more, no_repeat, repeat_at}
+use Rattle.list_repeats.proofs.Chains.{buckets, zeros, chained_more, back_more, low_more, bucket_of, ahead_more, new_key, same_told}
 use Rattle.list_repeats.proofs.has_repeats.Goals as goal
 
 pub loop-i-init : goal.loop-i-init
@@ -36,13 +36,12 @@ loop-next-smaller c =
     let h = c.loop-i.invariant.4 (c.loop-next.next - 1) in omega arith
 
 pub loop-next-preserved : goal.loop-next-preserved
-loop-next-preserved c =
-    (
-      let h = c.loop-i.invariant.4 (c.loop-next.next - 1) in omega arith,
-      λ s ms.
-          ahead_more (entry_at (u32_list s c.args.keys.now ms)) c.entry_at-key.result c.loop-i.links (get_or c.loop-i.heads c.bucket-b.result 0) c.loop-next.next
-          c.loop-next-test.true (same_told (c.entry_at.ensures s ms) refl c.same_key.ensures c.if-same_key.false) (c.loop-next.invariant.1 s ms),
-    )
+loop-next-preserved c = (
+  let h = c.loop-i.invariant.4 (c.loop-next.next - 1) in omega arith,
+  λ s ms.
+      ahead_more (entry_at (u32_list s c.args.keys.now ms)) c.entry_at-key.result c.loop-i.links (get_or c.loop-i.heads c.bucket-b.result 0) c.loop-next.next
+      c.loop-next-test.true (same_told (c.entry_at.ensures s ms) refl c.same_key.ensures c.if-same_key.false) (c.loop-next.invariant.1 s ms),
+)
 
 pub loop-i-preserved : goal.loop-i-preserved
 loop-i-preserved c =

@@ -1,15 +1,13 @@
 -- What the loops of `has_repeats` keep, and what falls with each turn.
-use Prim.Native.Nat.{ℕ, ◌≤◌, ◌-◌, ◌+◌, ◌<◌}
-use mathlib.Core.Path.{◌≡◌, refl, sym, ap, ◌∙◌}
+use Prim.Native.Nat.{ℕ, ◌≤◌, ◌-◌}
+use mathlib.Core.Path.{◌≡◌}
 use mathlib.Core.List.{List}
-use native.Mathlib.Omega.{arith}
-use borrow.Author.Rules.{rules}
-use lib.ListN.{length, get_or, length-set}
+use lib.ListN.{length, get_or}
 use Rattle.words.specs.Limits.{max_places}
 use Rattle.list.specs.declared.Sizes.{Sizes}
 use Rattle.list.specs.Lists.{u32_list, entry_at}
-use Rattle.list_repeats.proofs.Repeats.{Distinct, distinct_none, distinct_more, no_repeat, repeat_at}
-use Rattle.list_repeats.proofs.Chains.{buckets, zeros, Back, Chained, chained_more, back_more, low_more, bucket_of, Ahead, ahead_more, new_key, same_told}
+use Rattle.list_repeats.proofs.Repeats.{Distinct}
+use Rattle.list_repeats.proofs.Chains.{buckets, Back, Chained, bucket_of, Ahead}
 use Rattle.list_repeats.proofs.has_repeats.Given as goal
 
 abbrev pub invariant-loop-next : goal.invariant-loop-next

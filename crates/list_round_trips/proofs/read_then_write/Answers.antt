@@ -1,5 +1,4 @@
 -- `list_round_trips::read_then_write` meets its contract: the law is the second round trip. Assumes nothing.
-use borrow.Author.Rules.{rules}
 use Rattle.list_round_trips.proofs.TwoCalls.{read_refused, then_written}
 use Rattle.list_round_trips.proofs.read_then_write.Goals as goal
 

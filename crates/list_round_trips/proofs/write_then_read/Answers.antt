@@ -1,6 +1,5 @@
 -- `list_round_trips::write_then_read` meets its contract: what was written is within the bytes, and the law is the first round trip. Assumes nothing.
 use mathlib.Core.Path.{sym}
-use borrow.Author.Rules.{rules}
 use lib.Seq.{length-take-le}
 use Rattle.list_round_trips.proofs.TwoCalls.{written_within, write_refused, then_read}
 use Rattle.list_round_trips.proofs.write_then_read.Goals as goal

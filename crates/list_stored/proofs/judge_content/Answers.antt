@@ -1,7 +1,6 @@
 -- `list_stored::judge_content` meets its contract: the arrays hold what the bytes hold, so the judge of lists, the test for equal keys and the
 -- comparison of heights find what the definition finds. Assumes nothing.
 use mathlib.Core.Path.{refl, sym, ◌∙◌}
-use borrow.Author.Rules.{rules}
 use Rattle.list.proofs.JudgedLists.{places_height, places_refused}
 use Rattle.list_stored.proofs.Copies.{content_declined, content_repeat, content_other, content_fine}
 use Rattle.list_stored.proofs.judge_content.Goals as goal

@@ -2,7 +2,6 @@
 -- required. Assumes nothing.
 use mathlib.Core.Path.{sym, ◌∙◌}
 use native.Mathlib.Omega.{arith}
-use borrow.Author.Rules.{rules}
 use Rattle.list_stored.proofs.Reasons.{store_repeat, store_short, store_fine, stored_refused, stored_done}
 use Rattle.list_stored.proofs.store.Goals as goal
 

@@ -2,7 +2,6 @@
 -- wrong length whatever it is. Assumes nothing.
 use mathlib.Core.Path.{sym, ap, ◌∙◌}
 use native.Mathlib.Omega.{arith}
-use borrow.Author.Rules.{rules}
 use Rattle.list_bytes.specs.Packed.{stored_length, old_length}
 use Rattle.list_stored.proofs.Reasons.{old_long, new_long, whole_fine, torn_short, torn_many, torn_length}
 use Rattle.list_stored.proofs.torn.Goals as goal
