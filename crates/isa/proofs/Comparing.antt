@@ -1,5 +1,5 @@
--- `compare` is a total order: an entry compares equal with itself (compare_same) and with no other (compare-equal), exchanging the two
--- exchanges less and greater (compare-reversed), and less than less is less (compare-transitive). Shown for one word and carried through the
+-- `compare` is a total order: an entry compares equal with itself (compare_same) and with no other (compare_equal), exchanging the two
+-- exchanges less and greater (compare_reversed), and less than less is less (compare_transitive). Shown for one word and carried through the
 -- three.
 use mathlib.Core.Path.{◌≡◌, refl, ap, ◌∙◌}
 use mathlib.Core.Bool.{Bool, true, false, cond}
@@ -48,7 +48,7 @@ words_less a b next e = go (ltb a b) (ltb b a) refl refl e where
 below_less : (a b : ℕ) (next : Order) → a < b → compare_words a b next ≡ Less
 below_less a b next l = rw (lt-ltb a b l)
 
--- words-less of a and b, of b and c; where all three are equal, the words after them decide
+-- words_less of a and b, of b and c; where all three are equal, the words after them decide
 words_transitive : (a b c : ℕ) (m n o : Order) → (m ≡ Less → n ≡ Less → o ≡ Less)
     → compare_words a b m ≡ Less → compare_words b c n ≡ Less → compare_words a c o ≡ Less
 words_transitive a b c m n o next e f = go (words_less a b m e) (words_less b c n f) where

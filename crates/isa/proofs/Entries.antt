@@ -1,6 +1,6 @@
--- Laws of entries: what admission hands back (LHS of pow modulo p: pow-admits; all else as it is: admitted-same), what it tells of that entry,
+-- Laws of entries: what admission hands back (LHS of pow modulo p: pow_admits; all else as it is: admitted_same), what it tells of that entry,
 -- its height, and how heights fall as operands are halved (Comparing.antt has the laws of order). Callers use what is said of `admitted e` and of
--- what `judge_entry` finds; only the search of a list asks which words stand for one LHS (lhs-words).
+-- what `judge_entry` finds; only the search of a list asks which words stand for one LHS (lhs_words).
 use mathlib.Core.Path.{◌≡◌, refl, sym, ap, ◌∙◌}
 use mathlib.Core.Bool.{Bool, true, false, cond, not, ◌&&◌, ◌||◌}
 use mathlib.Core.Logic.{◌≢◌, ◌⊎◌, inl, inr}
@@ -310,7 +310,7 @@ dominant_small e a = go (eqb e.opcode op_pow) refl where
   go : (t : Bool) → eqb e.opcode op_pow ≡ t → dominant e < 4294967296
   go true k = omega (arith, dominant_pow e (eqb-true _ _ k), a.right)
   go false k =
-      let n = eqb-false _ _ k in
+      let n : e.opcode ≢ op_pow = eqb-false _ _ k in
       omega (arith, dominant_other e n, lhs_small e a n, a.right)
 
 -- "lt 2^32−1,0: 33" is the most

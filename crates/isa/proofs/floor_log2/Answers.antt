@@ -27,12 +27,12 @@ overflow_sub-result c = omega (arith, few_zeros c.args.n c.if-n-eq0.false c.rang
 
 pub returns-then-n-eq0 : goal.returns-then-n-eq0
 returns-then-n-eq0 c = record {
-      exact = sym (ap floor_log2 c.if-n-eq0.true ∙ floor_log2_zero);
-      bound = omega arith;
-    }
+  exact = sym (ap floor_log2 c.if-n-eq0.true ∙ floor_log2_zero);
+  bound = omega arith;
+}
 
 pub returns-else-n-eq0 : goal.returns-else-n-eq0
 returns-else-n-eq0 c = record {
-      exact = place c.args.n c.if-n-eq0.false c.ranges.n.fits;
-      bound = omega arith;
-    }
+  exact = place c.args.n c.if-n-eq0.false c.ranges.n.fits;
+  bound = omega arith;
+}

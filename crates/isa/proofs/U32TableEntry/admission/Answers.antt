@@ -1,6 +1,5 @@
 -- `isa::U32TableEntry::admission` meets its contract: the entry is handed back, or the reason.
 use mathlib.Core.Path.{ap}
-use borrow.Author.Rules.{rules}
 use Rattle.isa.specs.declared.Admission.TheVariants.{Admitted}
 use Rattle.isa.proofs.U32TableEntry.admission.Goals as goal
 

@@ -2,7 +2,6 @@
 use mathlib.Core.Path.{ap, ◌∙◌}
 use Rattle.words.specs.declared.Judgement.{Judgement}
 use Rattle.isa.specs.Entries.{judge_as_it_is, judge_entry, admission, admit}
-use borrow.Author.Rules.{rules}
 use Rattle.isa.proofs.U32TableEntry.admit.Goals as goal
 
 pub returns : goal.returns

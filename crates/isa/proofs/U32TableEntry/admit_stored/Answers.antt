@@ -2,7 +2,6 @@
 use mathlib.Core.Path.{ap, ◌∙◌}
 use Rattle.words.specs.declared.Judgement.{Judgement}
 use Rattle.isa.specs.Entries.{admission, admit_stored}
-use borrow.Author.Rules.{rules}
 use Rattle.isa.proofs.U32TableEntry.admit_stored.Goals as goal
 
 pub returns : goal.returns

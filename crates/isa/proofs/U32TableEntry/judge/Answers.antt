@@ -83,4 +83,4 @@ returns-in-Declined c =
 
 pub returns-in_default : goal.returns-in_default
 returns-in_default c =
-    sym (stranger c.args.self c.in_default.in_default-own.rest.0.0.1 c.in_default.in_default-own.rest.0.1 c.in_default.in_default-own.rest.1)
+    sym (stranger c.args.self (search rules) (search rules) (search rules))

@@ -61,6 +61,4 @@ pub returns-in-28 : goal.returns-in-28
 returns-in-28 c = sym (counted _ _ c.in-28.is)
 
 pub returns-in_default : goal.returns-in_default
-returns-in_default c =
-    let rest = c.in_default.in_default-own.rest in
-    sym (none _ _ rest.0.0.0.0.1 rest.0.0.0.1 rest.0.0.1 rest.0.1 rest.1)
+returns-in_default c = sym (none _ _ (search rules) (search rules) (search rules) (search rules) (search rules))

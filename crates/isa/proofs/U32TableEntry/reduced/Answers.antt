@@ -1,7 +1,6 @@
 -- `isa::U32TableEntry::reduced` meets its contract: the two cases of the definition.
 use Prim.Native.Nat.{ℕ}
-use mathlib.Core.Path.{◌≡◌, sym, ap, ◌∙◌}
-use borrow.Author.Rules.{rules}
+use mathlib.Core.Path.{sym, ap, ◌∙◌}
 use Rattle.isa.specs.Entries.{rhs, entry}
 use Rattle.isa.proofs.Entries.{admitted_pow, admitted_other}
 use Rattle.isa.proofs.U32TableEntry.reduced.Goals as goal
