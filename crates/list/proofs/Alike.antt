@@ -11,9 +11,9 @@ use Rattle.words.proofs.Judgements.{first_cong}
 use Rattle.words.proofs.Places.{map_cong}
 use Rattle.isa.specs.declared.U32TableEntry.{U32TableEntry}
 use Rattle.isa.specs.Entries.{judge_entry}
-use Rattle.list.specs.Lists.{U32List, used, key_at, multiplicity_at, entry_at, list_shape, judge_entry_by, judge_place_by, judge_place, judge_list}
+use Rattle.list.specs.Lists.{U32List, used, multiplicity_at, entry_at, list_shape, judge_entry_by, judge_place_by, judge_place, judge_list}
 use Rattle.list.specs.Heights.{sum_heights, list_height}
-use Rattle.list.specs.Keys.{same_key, find_from, find_key}
+use Rattle.list.specs.Keys.{find_from, find_key}
 use Rattle.list.proofs.Places.{section_entries_map}
 
 pub record Alike (l m : U32List) : Type 0 where

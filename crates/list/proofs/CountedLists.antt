@@ -1,8 +1,8 @@
--- The list of the counted places of a list (specs/Counted.antt). It has the right shape where that has (counted-shaped); its places are used places with a
--- count (counted-each), with their keys and counts (counted-key, counted-entry, counted-count), so it is admitted where the list is (counted-admitted,
--- fine-counted). What goes along the counted places goes along all places, those without count left out (counted-fold). Its entries are those at the counted
--- places (counted-entries, counted-height). Where no multiplicity is 0 every used place is counted (counted-to-all, all-entries, ..), so counting twice is
--- counting once (counted-counted). Assumes nothing.
+-- The list of the counted places of a list (specs/Counted.antt). It has the right shape where that has (counted_shaped); its places are used places with a
+-- count (counted_each), with their keys and counts (counted_key, counted_entry, counted_count), so it is admitted where the list is (counted_admitted,
+-- fine_counted). What goes along the counted places goes along all places, those without count left out (counted_fold). Its entries are those at the counted
+-- places (counted_entries, counted_height). Where no multiplicity is 0 every used place is counted (counted_to_all, all_entries, ..), so counting twice is
+-- counting once (counted_counted). Assumes nothing.
 use Prim.Native.Nat.{ℕ, zero, suc, ◌+◌, ◌*◌, ◌≤◌, ◌<◌}
 use mathlib.Core.Path.{◌≡◌, refl, sym, ap, ap₂, ◌∙◌}
 use mathlib.Core.Bool.{Bool, true, false, cond}
@@ -15,14 +15,13 @@ use lib.Dec.{eqb}
 use lib.ListN.{length, get_or, length-append, get_or-append}
 use lib.Seq.{get_or-append_seam}
 use borrow.Author.Tests.{eqb-true, eqb-false, eq-eqb, ne_eqb}
-use Rattle.words.specs.Limits.{multiplicity_limit}
 use Rattle.words.specs.Places.{places_from, places}
 use Rattle.words.specs.declared.Judgement.TheVariants.{Fine}
 use Rattle.words.proofs.Places.{places_more, length_places}
 use Rattle.isa.specs.declared.U32TableEntry.{U32TableEntry}
-use Rattle.isa.specs.Entries.{entry_words, entry_width, judge_entry, admitted}
+use Rattle.isa.specs.Entries.{entry_words, entry_width, admitted}
 use Rattle.list.specs.declared.Sizes.{Sizes}
-use Rattle.list.specs.Lists.{U32List, u32_list, capacity, used, key_at, multiplicity_at, entry_at, judge_list}
+use Rattle.list.specs.Lists.{U32List, u32_list, used, key_at, multiplicity_at, entry_at, judge_list}
 use Rattle.list.specs.Heights.{section_entries, sum_heights, list_height}
 use Rattle.list.specs.Counted.{counted_to, counted_places, counted}
 use Rattle.list.proofs.Places.{entry_at_key, section_entries_map}

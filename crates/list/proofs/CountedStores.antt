@@ -1,6 +1,6 @@
--- The list of the counted places, stored place by place at the front of two arrays (Stored): before the first turn of the loop (stored-none), a turn at a place
--- without count (stored-passed) and at one with a count (stored_more), what stands there after the last turn (stored-sizes, stored-keys, stored-counts); and
--- the parts of the arrays that are lent on: they are the list (lent-few, counted-lent, lent-keys, lent-counts). Assumes nothing.
+-- The list of the counted places, stored place by place at the front of two arrays (Stored): before the first turn of the loop (stored_none), a turn at a place
+-- without count (stored_passed) and at one with a count (stored_more), what stands there after the last turn (stored_sizes, stored_keys, stored_counts); and
+-- the parts of the arrays that are lent on: they are the list (lent_few, counted_lent, lent_keys, lent_counts). Assumes nothing.
 use Prim.Native.Nat.{ℕ, ◌+◌, ◌*◌, ◌≤◌}
 use mathlib.Core.Path.{◌≡◌, refl, sym, ap, ◌∙◌}
 use mathlib.Core.Logic.{◌≢◌}

@@ -1,6 +1,6 @@
--- What a search finds. find-hit, find-miss and find_none are its steps, for a loop that goes from place i to n. find-within, find-holds and
--- find_first say what the place is: the first used one whose entry is the key's, or `used` where none is. find-cong: a search asks the entries at
--- its places alone. find-more: one place more is found before, or tested last. Assumes nothing.
+-- What a search finds. find_hit, find_miss and find_none are its steps, for a loop that goes from place i to n. find_within, find_holds and
+-- find_first say what the place is: the first used one whose entry is the key's, or `used` where none is. find_cong: a search asks the entries at
+-- its places alone. find_more: one place more is found before, or tested last. Assumes nothing.
 use Prim.Native.Nat.{ℕ, zero, suc, ◌+◌, ◌*◌, ◌-◌, ◌≤◌, ◌<◌}
 use mathlib.Core.Path.{◌≡◌, refl, sym, ap, ◌∙◌, subst}
 use mathlib.Core.Bool.{Bool, true, false, cond, ◌&&◌}

@@ -1,5 +1,5 @@
--- Two lists that hold the same admitted entries (Alike.antt) and have the same holds: what gets sections is alike (alike-sections), and they are
--- judged alike with their holds (alike-held-shape, alike-held). Assumes nothing.
+-- Two lists that hold the same admitted entries (Alike.antt) and have the same holds: what gets sections is alike (alike_sections), and they are
+-- judged alike with their holds (alike_held_shape, alike_held). Assumes nothing.
 use Prim.Native.Nat.{ℕ, zero, suc, ◌*◌, ◌<◌}
 use mathlib.Core.Path.{◌≡◌, refl, sym, ap, ap₂, ◌∙◌}
 use mathlib.Core.Bool.{not}

@@ -1,26 +1,22 @@
 -- What it tells that a list with its holds is judged fine.
---   held-shaped, held-shape-fine: the shape test finds nothing exactly where the list's does and there is a hold a place.
---   no-hold, closed: 15 finds nothing exactly where no used place has a hold.
---   held-told, held-fine: the judge finds nothing exactly where the shape is right, no hold is open and the list that gets sections is judged fine.
---   full-exactly: count plus holds and one more pass the limit, by tests that add nothing.
+--   held_shaped, held_shape_fine: the shape test finds nothing exactly where the list's does and there is a hold a place.
+--   no_hold, closed: 15 finds nothing exactly where no used place has a hold.
+--   held_told, held_fine: the judge finds nothing exactly where the shape is right, no hold is open and the list that gets sections is judged fine.
+--   full_by_count, full_by_holds, not_full_by_both: count plus holds and one more pass the limit, by tests that add nothing.
 -- Assumes nothing.
 use Prim.Native.Nat.{ℕ, ◌+◌, ◌-◌, ◌≤◌, ◌<◌}
-use mathlib.Core.Path.{◌≡◌, refl, sym, ◌∙◌}
-use mathlib.Core.Bool.{Bool, true, false, not}
+use mathlib.Core.Path.{◌≡◌, ◌∙◌}
+use mathlib.Core.Bool.{true, false}
 use native.Mathlib.Omega.{arith}
-use lib.Dec.{eqb, ltb}
 use lib.ListN.{length}
-use borrow.Author.Tests.{ltb-true, ltb-false, eqb-true, not-false, lt-ltb, le-ltb, eq-eqb, ne_eqb}
+use borrow.Author.Tests.{eqb-true, lt-ltb, le-ltb, eq-eqb, ne_eqb}
 use Rattle.words.specs.Limits.{multiplicity_limit}
-use Rattle.words.specs.Refusals.{first_reason}
-use Rattle.words.specs.declared.Judgement.{Judgement}
 use Rattle.words.specs.declared.Judgement.TheVariants.{Fine, Declined}
 use Rattle.words.specs.declared.Refusal.{Refusal}
 use Rattle.words.specs.declared.Refusal.TheVariants.{Shape, OpenHold}
-use Rattle.words.proofs.Judgements.{decline_true, decline_fine, decline_not_true, decline_not_fine, or_next, or_first, or_both, first_fine, first_none}
-use Rattle.list.specs.declared.Judged.{Judged}
+use Rattle.words.proofs.Judgements.{decline_not_true, decline_not_fine, or_next, or_both, first_fine, first_none}
 use Rattle.list.specs.declared.Judged.TheVariants.{Height, Refused}
-use Rattle.list.specs.Lists.{U32List, capacity, used, list_shape, count_full, judge_list}
+use Rattle.list.specs.Lists.{capacity, used, list_shape, count_full, judge_list}
 use Rattle.list.specs.Heights.{list_height, judged_list}
 use Rattle.list.specs.Holds.{HeldList, hold_at, held_shape, judge_hold, open_hold, section_list, judge_held, judged_held}
 use Rattle.list.proofs.JudgedLists.{Shaped, shaped, shape_fine, judged_as_height, judged_as_refused}

@@ -1,9 +1,9 @@
 -- What it tells that a list is judged fine, and its height place by place.
---   shaped, shape-fine: the shape test finds nothing exactly where sizes and lengths fit together.
---   list-admitted, admitted-fine: the judge finds nothing exactly where the shape is right and the entry and the multiplicity at every
+--   shaped, shape_fine: the shape test finds nothing exactly where sizes and lengths fit together.
+--   list_admitted, admitted_fine: the judge finds nothing exactly where the shape is right and the entry and the multiplicity at every
 --   used place are.
---   height-more: one place more adds its entry's height; so a list that is judged fine has at most 33 rows for
---   each used place (list-height-bound).
+--   height_more: one place more adds its entry's height; so a list that is judged fine has at most 33 rows for
+--   each used place (list_height_bound).
 --   limit_is: the limit of multiplicities is p − 1.
 -- Assumes nothing.
 use Prim.Native.Nat.{ℕ, zero, suc, ◌+◌, ◌*◌, ◌-◌, ◌≤◌, ◌<◌}

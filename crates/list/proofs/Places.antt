@@ -1,4 +1,4 @@
--- The entry at a place is its key as admission hands it back (entry-at-key). The entries at runs of places. Every used place gets a section, so the entries of a list are those at its first places.
+-- The entry at a place is its key as admission hands it back (entry_at_key). The entries at runs of places. Every used place gets a section, so the entries of a list are those at its first places.
 use mathlib.Core.Path.{◌≡◌, refl}
 use mathlib.Core.List.{List, [], ◌∷◌, map}
 use Prim.Native.Nat.{ℕ}

@@ -1,5 +1,4 @@
 -- `list::admit_by` meets its contract: each way out is one of the two rules. Assumes nothing.
-use borrow.Author.Rules.{rules}
 use Rattle.isa.specs.Entries.{admit}
 use Rattle.list.specs.Lists.{judge_entry_by}
 use Rattle.list.proofs.admit_by.Goals as goal

@@ -1,15 +1,15 @@
 -- `list::counted` meets its contract. The loop's invariant: of the places before `place`, n are counted, and they stand at the front of the two arrays. It is
 -- said of every list with these keys and multiplicities: which places are counted, and what stands there, asks for nothing else. Assumes nothing.
-use Prim.Native.Nat.{ℕ, ◌*◌, ◌-◌, ◌≤◌}
-use mathlib.Core.Path.{◌≡◌, refl, ap, ◌∙◌}
+use Prim.Native.Nat.{◌*◌}
+use mathlib.Core.Path.{refl, ap, ◌∙◌}
 use borrow.Author.Rules.{rules}
 use native.Mathlib.Omega.{arith}
 use lib.Seq.{sets}
 use Rattle.isa.specs.declared.U32TableEntry.{U32TableEntry}
 use Rattle.isa.specs.Entries.{entry_words, entry_width}
 use Rattle.list.specs.declared.Sizes.{Sizes}
-use Rattle.list.specs.Lists.{u32_list, multiplicity_at}
-use Rattle.list.proofs.CountedStores.{Stored, stored_none, stored_few, stored_long_keys, stored_long_counts, stored_passed, stored_more}
+use Rattle.list.specs.Lists.{multiplicity_at}
+use Rattle.list.proofs.CountedStores.{stored_none, stored_few, stored_long_keys, stored_long_counts, stored_passed, stored_more}
 use Rattle.list.proofs.CountedStores.{stored_sizes, stored_keys, stored_counts}
 use Rattle.list.proofs.counted.Goals as goal
 
@@ -47,13 +47,12 @@ overflow_add-n c = let few = stored_few (c.loop-place.invariant.1 any) in search
 
 pub loop-place-preserved : goal.loop-place-preserved
 unfolding multiplicity_at
-loop-place-preserved c =
-    (
-      search rules,
-      λ s.
-          stored_more (c.loop-place.invariant.1 s) c.if-multiplicity-eq0.false
-          (c.put_key.ensures ∙ ap (λ (k : U32TableEntry). sets c.loop-place.to_keys (entry_width * c.loop-place.n) (entry_words k)) (c.key_at.ensures s _)) refl,
-    )
+loop-place-preserved c = (
+  search rules,
+  λ s.
+      stored_more (c.loop-place.invariant.1 s) c.if-multiplicity-eq0.false
+      (c.put_key.ensures ∙ ap (λ (k : U32TableEntry). sets c.loop-place.to_keys (entry_width * c.loop-place.n) (entry_words k)) (c.key_at.ensures s _)) refl,
+)
 
 pub shape_of-to_keys : goal.shape_of-to_keys
 shape_of-to_keys c = stored_long_keys (c.loop-place.invariant.1 any)

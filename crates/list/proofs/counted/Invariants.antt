@@ -1,15 +1,8 @@
 -- What the loop of `counted` keeps, and what falls with each turn.
-use Prim.Native.Nat.{ℕ, ◌*◌, ◌-◌, ◌≤◌}
-use mathlib.Core.Path.{◌≡◌, refl, ap, ◌∙◌}
-use borrow.Author.Rules.{rules}
-use native.Mathlib.Omega.{arith}
-use lib.Seq.{sets}
-use Rattle.isa.specs.declared.U32TableEntry.{U32TableEntry}
-use Rattle.isa.specs.Entries.{entry_words, entry_width}
+use Prim.Native.Nat.{◌-◌, ◌≤◌}
 use Rattle.list.specs.declared.Sizes.{Sizes}
-use Rattle.list.specs.Lists.{u32_list, multiplicity_at}
-use Rattle.list.proofs.CountedStores.{Stored, stored_none, stored_few, stored_long_keys, stored_long_counts, stored_passed, stored_more}
-use Rattle.list.proofs.CountedStores.{stored_sizes, stored_keys, stored_counts}
+use Rattle.list.specs.Lists.{u32_list}
+use Rattle.list.proofs.CountedStores.{Stored}
 use Rattle.list.proofs.counted.Given as goal
 
 abbrev pub invariant-loop-place : goal.invariant-loop-place

@@ -1,5 +1,4 @@
 -- `list::do_eight_differ` meets its contract: each place has its test. Assumes nothing.
-use mathlib.Core.Bool.{false≢true}
 use borrow.Author.Rules.{rules}
 use Rattle.list.proofs.Finding.{eight_differ}
 use Rattle.list.proofs.do_eight_differ.Goals as goal

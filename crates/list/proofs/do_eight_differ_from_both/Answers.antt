@@ -1,5 +1,4 @@
 -- `list::do_eight_differ_from_both` meets its contract: both words are asked for, once where they are the same. Assumes nothing.
-use borrow.Author.Rules.{rules}
 use Rattle.list.proofs.do_eight_differ_from_both.Goals as goal
 
 pub returns-then-other-left_operand : goal.returns-then-other-left_operand

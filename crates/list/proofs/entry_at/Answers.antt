@@ -1,6 +1,5 @@
 -- `list::entry_at` meets its contract: what admission hands back of the key at the place. Assumes nothing.
 use mathlib.Core.Path.{ap, ◌∙◌}
-use borrow.Author.Rules.{rules}
 use Rattle.isa.specs.Entries.{admitted}
 use Rattle.list.specs.Lists.{entry_at}
 use Rattle.list.proofs.entry_at.Goals as goal

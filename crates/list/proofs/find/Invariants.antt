@@ -1,18 +1,11 @@
 -- What the loops of `find` keep, and what falls with each turn.
-use Prim.Native.Nat.{ℕ, ◌+◌, ◌*◌, ◌≤◌, ◌-◌}
-use mathlib.Core.Path.{◌≡◌, sym, ◌∙◌}
+use Prim.Native.Nat.{ℕ, ◌*◌, ◌≤◌, ◌-◌}
+use mathlib.Core.Path.{◌≡◌}
 use mathlib.Core.List.{List}
-use native.Mathlib.Omega.{arith}
-use native.Mathlib.Numerals.{unary_clauses}
-use borrow.Author.Rules.{rules}
-use borrow.Author.Tests.{not-false}
 use Rattle.isa.specs.declared.U32TableEntry.{U32TableEntry}
-use Rattle.isa.specs.Entries.{lhs}
 use Rattle.list.specs.declared.Sizes.{Sizes}
 use Rattle.list.specs.Lists.{u32_list}
 use Rattle.list.specs.Keys.{find_from}
-use Rattle.list.specs.Eights.{EightDiffer, other_word}
-use Rattle.list.proofs.Finding.{find_hit, find_miss, find_none, find_eight}
 use Rattle.list.proofs.find.Given as goal
 
 -- the search goes on from place i

@@ -1,6 +1,5 @@
 -- `list::held_shape` meets its contract: the list's reason 1, or the holds' length. Assumes nothing.
 use mathlib.Core.Path.{◌≡◌, sym, ◌∙◌}
-use borrow.Author.Rules.{rules}
 use borrow.Author.Tests.{eq-eqb, ne_eqb}
 use lib.ListN.{length}
 use Rattle.words.specs.declared.Judgement.TheVariants.{Fine, Declined}

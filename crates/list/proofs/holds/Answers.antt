@@ -1,6 +1,5 @@
 -- `list::holds` meets its contract: another RHS is another entry. Assumes nothing.
 use mathlib.Core.Path.{sym, ap, ◌∙◌}
-use borrow.Author.Rules.{rules}
 use Rattle.isa.specs.declared.U32TableEntry.{U32TableEntry}
 use Rattle.list.specs.Keys.{same_key}
 use Rattle.list.proofs.Finding.{differ_by_rhs}

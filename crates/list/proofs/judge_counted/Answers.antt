@@ -1,5 +1,5 @@
 -- `list::judge_counted` meets its contract: the parts of the two arrays that are lent on are the list of the counted places. Assumes nothing.
-use mathlib.Core.Path.{◌≡◌, refl, ap, ◌∙◌}
+use mathlib.Core.Path.{refl, ap, ◌∙◌}
 use borrow.Author.Rules.{rules}
 use Rattle.list.specs.Heights.{judged_list}
 use Rattle.list.proofs.CountedStores.{lent_few, counted_lent, lent_keys, lent_counts}

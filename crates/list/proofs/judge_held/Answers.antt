@@ -1,7 +1,6 @@
 -- `list::judge_held` meets its contract: reason 1, then 15, then what `judge_counted` answers of the list that gets sections. Assumes nothing.
-use mathlib.Core.Path.{◌≡◌, sym, ◌∙◌}
+use mathlib.Core.Path.{sym, ◌∙◌}
 use native.Mathlib.Omega.{arith}
-use borrow.Author.Rules.{rules}
 use Rattle.list.specs.Holds.{section_list}
 use Rattle.list.proofs.HeldLists.{held_shaped, judged_held_shape, judged_held_open, judged_held_list}
 use Rattle.list.proofs.judge_held.Goals as goal

@@ -1,7 +1,6 @@
 -- `list::judge_list` meets its contract: reason 1, or what `judge_places` answers, for which the shape leaves room. Assumes nothing.
 use mathlib.Core.Path.{sym, ◌∙◌}
 use native.Mathlib.Omega.{arith}
-use borrow.Author.Rules.{rules}
 use Rattle.list.proofs.JudgedLists.{shaped, judged_shape, judged_places_lem}
 use Rattle.list.proofs.judge_list.Goals as goal
 

@@ -1,18 +1,16 @@
 -- `list::judge_places` meets its contract. The loop's invariant: the first reason among all used places is the first among those from `place`
 -- on, and `height` is the height of the places before it, at most 65 each, so that no sum wraps. It is said of every list with these keys
 -- and multiplicities: judging a place and its height ask for nothing else. Assumes nothing.
-use Prim.Native.Nat.{ℕ, ◌+◌, ◌*◌, ◌-◌, ◌≤◌}
+use Prim.Native.Nat.{ℕ, ◌+◌}
 use mathlib.Core.Path.{◌≡◌, sym, ◌∙◌}
 use mathlib.Core.Bool.{Bool}
 use native.Mathlib.Numerals.{add-one}
-use native.Mathlib.Omega.{arith}
 use borrow.Author.Rules.{rules}
 use Rattle.words.specs.Refusals.{first_reason}
 use Rattle.words.specs.declared.Judgement.TheVariants.{Fine}
 use Rattle.isa.specs.declared.U32TableEntry.{U32TableEntry}
 use Rattle.isa.specs.Entries.{admitted, height}
-use Rattle.list.specs.declared.Sizes.{Sizes}
-use Rattle.list.specs.Lists.{U32List, u32_list, used, key_at, multiplicity_at, entry_at, judge_place_by}
+use Rattle.list.specs.Lists.{U32List, used, key_at, multiplicity_at, entry_at, judge_place_by}
 use Rattle.list.specs.Heights.{judged_places}
 use Rattle.list.specs.declared.Judged.TheVariants.{Height}
 use Rattle.words.proofs.Judgements.{first_hit, first_step, first_done, first_start}
@@ -53,19 +51,18 @@ returns-in-Refused c = λ capacity.
 
 pub loop-place-preserved : goal.loop-place-preserved
 unfolding multiplicity_at
-loop-place-preserved c =
-    (
-      search rules,
-      search rules,
-      λ s.
-          let entry = admitted_told_by _ (c.key_at.ensures s _) c.admit_by.ensures c.in-Admitted.is in
-          c.loop-place.invariant.2 s
-          ∙ first_step _ _ _ (search rules)
-          (place_fine _ _ _ entry.0 (sym c.count_full.ensures ∙ c.if-count_full.false)),
-      λ s.
-          let entry = admitted_told_by _ (c.key_at.ensures s _) c.admit_by.ensures c.in-Admitted.is in
-          height_turn _ _ (c.loop-place.invariant.3 s) c.table_height_contribution-height.ensures.exact entry.1,
-    )
+loop-place-preserved c = (
+  search rules,
+  search rules,
+  λ s.
+      let entry = admitted_told_by _ (c.key_at.ensures s _) c.admit_by.ensures c.in-Admitted.is in
+      c.loop-place.invariant.2 s
+      ∙ first_step _ _ _ (search rules)
+      (place_fine _ _ _ entry.0 (sym c.count_full.ensures ∙ c.if-count_full.false)),
+  λ s.
+      let entry = admitted_told_by _ (c.key_at.ensures s _) c.admit_by.ensures c.in-Admitted.is in
+      height_turn _ _ (c.loop-place.invariant.3 s) c.table_height_contribution-height.ensures.exact entry.1,
+)
 
 pub returns : goal.returns
 returns c = λ capacity.

@@ -2,7 +2,6 @@
 -- most 2,048. Assumes nothing.
 use Prim.Native.Nat.{◌*◌, ◌≤◌, ◌<◌}
 use mathlib.Core.Path.{◌≡◌, sym}
-use borrow.Author.Rules.{rules}
 use borrow.Author.Tests.{lt-ltb, le-ltb, eq-eqb, ne_eqb}
 use lib.ListN.{length}
 use Rattle.words.specs.Limits.{max_places}

@@ -1,12 +1,9 @@
 -- `list::open_hold` meets its contract. The loop's invariant: the first reason among all used places is the first among those from `place` on.
 -- Assumes nothing.
-use Prim.Native.Nat.{ℕ, ◌-◌, ◌≤◌}
-use mathlib.Core.Path.{◌≡◌, sym, ◌∙◌}
-use mathlib.Core.List.{List}
+use mathlib.Core.Path.{sym, ◌∙◌}
 use borrow.Author.Rules.{rules}
-use Rattle.words.specs.Refusals.{first_reason}
 use Rattle.words.proofs.Judgements.{first_hit, first_step, first_done, first_start}
-use Rattle.list.specs.Holds.{held_list, hold_at, judge_hold, open_hold}
+use Rattle.list.specs.Holds.{hold_at, open_hold}
 use Rattle.list.proofs.HeldLists.{hold_open, hold_closed}
 use Rattle.list.proofs.open_hold.Goals as goal
 

@@ -1,12 +1,9 @@
 -- What the loop of `open_hold` keeps, and what falls with each turn.
 use Prim.Native.Nat.{ℕ, ◌-◌, ◌≤◌}
-use mathlib.Core.Path.{◌≡◌, sym, ◌∙◌}
+use mathlib.Core.Path.{◌≡◌}
 use mathlib.Core.List.{List}
-use borrow.Author.Rules.{rules}
 use Rattle.words.specs.Refusals.{first_reason}
-use Rattle.words.proofs.Judgements.{first_hit, first_step, first_done, first_start}
-use Rattle.list.specs.Holds.{held_list, hold_at, judge_hold, open_hold}
-use Rattle.list.proofs.HeldLists.{hold_open, hold_closed}
+use Rattle.list.specs.Holds.{held_list, judge_hold}
 use Rattle.list.proofs.open_hold.Given as goal
 
 abbrev pub invariant-loop-place : goal.invariant-loop-place

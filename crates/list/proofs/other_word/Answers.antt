@@ -1,6 +1,5 @@
 -- `list::other_word` meets its contract: the cases of the definition. Assumes nothing.
 use mathlib.Core.Path.{sym}
-use native.Mathlib.Omega.{arith}
 use borrow.Author.Rules.{rules}
 use Rattle.list.proofs.Finding.{other_word_fits, other_word_past, other_word_none}
 use Rattle.list.proofs.other_word.Goals as goal
