@@ -1,6 +1,6 @@
--- A confirm and a drop by what they do to the places of a list: an accepted confirm takes one hold at its place and adds one count (confirm-view), an
--- accepted drop takes one hold (drop-view); neither changes the shape (confirm-shaped, drop-shaped). Any call that is refused leaves the list as it
--- was (call-refused). Assumes nothing.
+-- A confirm and a drop by what they do to the places of a list: an accepted confirm takes one hold at its place and adds one count (confirm_view), an
+-- accepted drop takes one hold (drop_view); neither changes the shape (confirm_shaped, drop_shaped). Any call that is refused leaves the list as it
+-- was (call_refused). Assumes nothing.
 use Prim.Native.Nat.{ℕ, ◌+◌, ◌-◌, ◌≤◌}
 use mathlib.Core.Path.{◌≡◌, refl, sym, ap, subst}
 use mathlib.Core.List.{List, []}

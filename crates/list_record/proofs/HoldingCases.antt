@@ -1,5 +1,5 @@
--- A hold's end: `drop_reason` and `confirm_reason` in each of their cases, and what it tells that nothing speaks against a drop (drop-told,
--- drop-room). Assumes nothing.
+-- A hold's end: `drop_reason` and `confirm_reason` in each of their cases, and what it tells that nothing speaks against a drop (drop_told,
+-- drop_room). Assumes nothing.
 use Prim.Native.Nat.{ℕ, ◌+◌, ◌≤◌, ◌<◌}
 use mathlib.Core.Path.{◌≡◌, ◌∙◌}
 use mathlib.Core.Bool.{true, false, not, and-eq-true_iff}

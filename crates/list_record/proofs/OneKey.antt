@@ -1,8 +1,8 @@
 -- Which entries are one key. A search finds a key exactly where some used place holds an entry that admission hands back as that key
--- (known-found, found-known), so raw words at a place count as their reduced form. A recording or a hold goes by the admitted entry alone
--- (recorded-alike): two raw words of one element are one key (pow-recorded). An appended key is the admitted one, which admission hands back as it is
--- (new-key-reduced); a key that gains keeps its words, raw or not (known-key-stays). Lists that hold the same admitted entries get the same plan
--- (plan-alike) and the same answer of a recording or a hold, which leaves such lists again (record-alike). Assumes nothing.
+-- (known_found, found_known), so raw words at a place count as their reduced form. A recording or a hold goes by the admitted entry alone
+-- (recorded_alike): two raw words of one element are one key (pow_recorded). An appended key is the admitted one, which admission hands back as it is
+-- (new_key_reduced); a key that gains keeps its words, raw or not (known_key_stays). Lists that hold the same admitted entries get the same plan
+-- (plan_alike) and the same answer of a recording or a hold, which leaves such lists again (record_alike). Assumes nothing.
 use Prim.Native.Nat.{ℕ, ◌+◌, ◌*◌, ◌%◌, ◌<◌}
 use mathlib.Core.Path.{◌≡◌, refl, sym, ap, ◌∙◌}
 use mathlib.Core.Bool.{Bool, true, false}
@@ -27,8 +27,8 @@ use Rattle.isa.specs.declared.U32TableEntry.{U32TableEntry}
 use Rattle.isa.specs.Entries.{entry, entry_words, entry_width, judge_entry, admitted}
 use Rattle.isa.proofs.Entries.{admitted_pow, admitted_same, admitted_again}
 use Rattle.isa.proofs.Comparing.{entries_same}
-use Rattle.list.specs.Lists.{U32List, capacity, used, key_at, entry_at, multiplicity_at}
-use Rattle.list.specs.Keys.{same_key, find_key}
+use Rattle.list.specs.Lists.{capacity, used, key_at, entry_at, multiplicity_at}
+use Rattle.list.specs.Keys.{same_key}
 use Rattle.list.specs.Holds.{HeldList, hold_at, held_shape, section_list}
 use Rattle.list.proofs.Finding.{same_key_equal, same_key_self, find_holds, find_first}
 use Rattle.list.proofs.JudgedLists.{Shaped}

@@ -1,5 +1,5 @@
--- padded_height h is the smallest power of two that is at least h and at least 256: it is one (padded-power), it is at least h
--- (padded-at-least) and 256 (padded-not-below), and no power of two that is at least both is smaller (padded-least). Each is shown of the
+-- padded_height h is the smallest power of two that is at least h and at least 256: it is one (padded_power), it is at least h
+-- (padded_at_least) and 256 (padded_not_below), and no power of two that is at least both is smaller (padded_least). Each is shown of the
 -- doublings from any power of two on, by induction on their number; h doublings are enough, since each adds one or more. Assumes nothing.
 use Prim.Native.Nat.{ℕ, zero, suc, ◌+◌, ◌*◌, ◌^◌, ◌≤◌, ◌<◌}
 use mathlib.Core.Path.{◌≡◌, refl, sym, ap, subst, ◌∙◌}
@@ -8,7 +8,7 @@ use mathlib.Core.Logic.{◌⊎◌, inl, inr, ⊎_elim}
 use native.Mathlib.Nat.{mul_comm, pow-succ', le_antisymm}
 use native.Mathlib.Omega.{arith}
 use lib.Dec.{ltb}
-use lib.Pow.{pow_pos, pow_mono}
+use lib.Pow.{pow_mono}
 use borrow.Author.Tests.{ltb-true, ltb-false, lt-ltb, le-ltb}
 use Rattle.words.specs.Limits.{min_padded_height}
 use Rattle.list_record.specs.Plan.{doubled_to, padded_height}

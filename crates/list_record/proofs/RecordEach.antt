@@ -1,5 +1,5 @@
--- Recordings one after the other: an accepted one goes on with the list that it leaves (each-accepted), a refused one is the last (each-refused)
--- and leaves its list as it was (refused-left). In an accepted run each is accepted (each_first); it answers no value (each-done), and two runs are one
+-- Recordings one after the other: an accepted one goes on with the list that it leaves (each_accepted), a refused one is the last (each_refused)
+-- and leaves its list as it was (refused_left). In an accepted run each is accepted (each_first); it answers no value (each_done), and two runs are one
 -- (each_append). Assumes nothing.
 use Prim.Native.Nat.{ℕ}
 use mathlib.Core.Path.{◌≡◌, refl, sym, ap, ◌∙◌}

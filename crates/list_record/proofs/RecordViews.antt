@@ -1,7 +1,7 @@
 -- A recording or a hold by what it does to the places of a list: an accepted one raises the count or the holds of the place that has the key, or appends
--- the key (record-view). So an accepted run of recordings keeps a list admitted (each-keeps-admitted) and leaves no hold open where none was
--- (each-keeps-closed), all its entries are admitted (each-entry), and what holds of them and of the keys before holds of the keys afterwards
--- (each-key). Assumes nothing.
+-- the key (record_view). So an accepted run of recordings keeps a list admitted (each_keeps_admitted) and leaves no hold open where none was
+-- (each_keeps_closed), all its entries are admitted (each_entry), and what holds of them and of the keys before holds of the keys afterwards
+-- (each_key). Assumes nothing.
 use Prim.Native.Nat.{ℕ, ◌+◌, ◌≤◌, ◌<◌}
 use mathlib.Core.Path.{◌≡◌, refl, sym, ap, ◌∙◌, subst}
 use mathlib.Core.Bool.{Bool, true, false}
@@ -23,14 +23,14 @@ use Rattle.list.specs.Lists.{capacity, used, multiplicity_at, entry_at}
 use Rattle.list.specs.Holds.{HeldList, hold_at, held_shape, open_hold}
 use Rattle.list.proofs.Finding.{same_key_equal, find_holds}
 use Rattle.list.proofs.JudgedLists.{Shaped, ListAdmitted, count_within}
-use Rattle.list.proofs.HeldLists.{HeldShaped, held_shaped, held_shape_fine, no_hold, closed}
-use Rattle.list_record.specs.Recording.{place_in, known, place_reason, record_reason, settled, raised, appended, recorded_into, record_with}
+use Rattle.list.proofs.HeldLists.{HeldShaped, held_shaped, no_hold, closed}
+use Rattle.list_record.specs.Recording.{place_in, known, place_reason, record_reason, settled, appended, recorded_into, record_with}
 use Rattle.list_record.specs.Recording.{record_all, record_each}
 use Rattle.list_record.proofs.RecordEach.{number_of, each_first}
 use Rattle.list_record.proofs.OneKey.{found_known}
 use Rattle.list_record.proofs.Stores.{settled_entry, settled_count, settled_hold, settled_shaped}
 use Rattle.list_record.proofs.Stores.{appended_entry, appended_count, appended_hold, appended_shaped, new_entry}
-use Rattle.list_record.proofs.Views.{View, Unknown, Changed, Appended, Recorded, EachPlace, recorded_each}
+use Rattle.list_record.proofs.Views.{View, Changed, Appended, Recorded, EachPlace, recorded_each}
 
 unfoldable pub view_of : HeldList → View
 view_of h = record { used = used h.list; key = entry_at h.list; count = multiplicity_at h.list; hold = hold_at h }

@@ -1,6 +1,6 @@
 -- A recording or a hold in its two parts. `place_of` in each of its cases: declined for the shape, for the entry, for a full count or a full list;
--- the first equal key; a new key. What is found there fits (place-fits), and storing at it is the recording (recorded-at). From these: the
--- position of a new key is the first unused place (new-position), and a recording keeps the list's shape (record-keeps-shape). Assumes nothing.
+-- the first equal key; a new key. What is found there fits (place_fits), and storing at it is the recording (recorded_at). From these: the
+-- position of a new key is the first unused place (new_position), and a recording keeps the list's shape (record_keeps_shape). Assumes nothing.
 use Prim.Native.Nat.{ℕ, ◌+◌, ◌≤◌, ◌<◌}
 use mathlib.Core.Path.{◌≡◌, refl, sym, ap, ◌∙◌}
 use mathlib.Core.Bool.{Bool, true, false, cond}

@@ -1,17 +1,17 @@
 -- What the two stores do to the places of a list and to a search. A place that is settled, that is, gets a count and holds: all entries stay, and so do
--- the multiplicities and holds of the other places (settled-find, settled-count, settled-hold). A key that is appended: the used places stay, it stands
--- at the first unused one (appended-entry, new-entry), and a search for another key finds what it found, or ends one place later (appended-known,
--- appended-unknown). Both keep the shape (settled-shaped, appended-shaped). Assumes nothing.
-use Prim.Native.Nat.{ℕ, suc, ◌+◌, ◌*◌, ◌≤◌, ◌<◌}
-use mathlib.Core.Path.{◌≡◌, refl, sym, ap, ◌∙◌}
-use mathlib.Core.Bool.{Bool, true, false}
+-- the multiplicities and holds of the other places (settled_find, settled_count, settled_hold). A key that is appended: the used places stay, it stands
+-- at the first unused one (appended_entry, new_entry), and a search for another key finds what it found, or ends one place later (appended_known,
+-- appended_unknown). Both keep the shape (settled_shaped, appended_shaped). Assumes nothing.
+use Prim.Native.Nat.{ℕ, ◌+◌, ◌*◌, ◌<◌}
+use mathlib.Core.Path.{◌≡◌, sym, ap, ◌∙◌}
+use mathlib.Core.Bool.{false}
 use mathlib.Core.List.{List}
 use mathlib.Core.Logic.{◌≢◌}
 use native.Mathlib.Nat.{add-zero, zero-add}
 use native.Mathlib.Omega.{arith}
 use native.Mathlib.Numerals.{add-one}
-use lib.ListN.{length, get_or, length-set}
-use lib.Seq.{sets, get_or-set_same, get_or-set_other, length-sets}
+use lib.ListN.{get_or, length-set}
+use lib.Seq.{sets, get_or-set_other, length-sets}
 use borrow.Author.Tests.{lt-ltb, le-ltb}
 use Rattle.words.proofs.Sets.{get_d_sets_below, get_d_sets_in}
 use Rattle.isa.specs.declared.U32TableEntry.{U32TableEntry}

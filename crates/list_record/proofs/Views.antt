@@ -1,7 +1,7 @@
 -- A list by its places, for laws over many calls: how many places are used, and the key, the multiplicity and the holds at each. A key is the entry as
 -- admission hands it back. What a call does to the places is one of two things: the count and the holds of one place are changed (Changed), or a key is
 -- appended (Appended). What holds of the key, the count and the holds at every place goes on to hold where it holds at the place that is new
--- (changed-each, appended-each, recorded-each). Nothing here speaks of the arrays; viewOf and record-view (RecordViews.antt) say how a list and a
+-- (changed_each, appended_each, recorded_each). Nothing here speaks of the arrays; view_of and record_view (RecordViews.antt) say how a list and a
 -- recording are such. Assumes nothing.
 use Prim.Native.Nat.{ℕ, suc, ◌+◌, ◌≤◌, ◌<◌}
 use mathlib.Core.Path.{◌≡◌}

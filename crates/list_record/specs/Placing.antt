@@ -1,5 +1,5 @@
 -- Recording in two parts: where an entry goes, and storing it there. No contract of document 01's calls cites this page;
--- proofs/RecordingCases.antt: recorded-at says that the two parts are a recording.
+-- proofs/RecordingCases.antt: recorded_at says that the two parts are a recording.
 use Rattle.std.specs.Prelude.{ℕ, ◌+◌, ◌*◌, ◌<◌, ◌≡◌, false, cond, [], ◌∷◌, length}
 use Rattle.words.specs.Answers.{done, declined}
 use Rattle.words.specs.Outcomes.{Outcome}

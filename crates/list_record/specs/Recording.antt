@@ -57,7 +57,7 @@ abbrev pub recorded_into : (count hold : ℕ) → HeldList → U32TableEntry →
 recorded_into count hold h e = cond (known h e) (raised count hold h (place_in h e)) (appended count hold h e)
 
 -- "the answer is the key's position": find_key answers the first unused place, `used`, where no key is equal (proofs/RecordingCases.antt:
--- new-position). A refusal changes nothing lent
+-- new_position). A refusal changes nothing lent
 unfoldable pub record_with : (count hold : ℕ) → HeldList → U32TableEntry → Outcome HeldList
 record_with count hold h e = outcome (record_reason h e) (place_in h (admitted e) ∷ []) h (recorded_into count hold h (admitted e))
 

@@ -1,8 +1,7 @@
 -- `list_record::find_admitted` meets its contract: each way out is one of the cases of a place (proofs/RecordingCases.antt). Count and holds are
 -- tested before one is added. Assumes nothing.
-use Prim.Native.Nat.{ℕ, ◌+◌}
+use Prim.Native.Nat.{ℕ}
 use mathlib.Core.Path.{◌≡◌, sym, ◌∙◌}
-use borrow.Author.Rules.{rules}
 use Rattle.isa.specs.declared.U32TableEntry.{U32TableEntry}
 use Rattle.list.specs.Lists.{U32List, used, multiplicity_at}
 use Rattle.list.specs.Holds.{hold_at}

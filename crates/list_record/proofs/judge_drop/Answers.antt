@@ -1,5 +1,5 @@
 -- `list_record::judge_drop` meets its contract: each way out is one of the cases of a hold's end (proofs/HoldingCases.antt). Assumes nothing.
-use mathlib.Core.Path.{◌≡◌, sym, ◌∙◌}
+use mathlib.Core.Path.{sym, ◌∙◌}
 use borrow.Author.Rules.{rules}
 use Rattle.list.specs.Holds.{hold_at}
 use Rattle.list.proofs.HeldLists.{held_shaped}

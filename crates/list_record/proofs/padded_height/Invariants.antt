@@ -1,10 +1,7 @@
 -- What the loop of `padded_height` keeps, and what falls with each turn.
 use Prim.Native.Nat.{◌≤◌, ◌-◌}
-use mathlib.Core.Path.{◌≡◌, refl, sym, ◌∙◌}
-use native.Mathlib.Omega.{arith}
-use borrow.Author.Rules.{rules}
+use mathlib.Core.Path.{◌≡◌}
 use Rattle.list_record.specs.Plan.{doubled_to, padded_height}
-use Rattle.list_record.proofs.PaddedHeight.{doubled_once, doubled_stops}
 use Rattle.list_record.proofs.padded_height.Given as goal
 
 abbrev pub invariant-loop-padded : goal.invariant-loop-padded

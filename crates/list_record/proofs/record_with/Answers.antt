@@ -1,5 +1,5 @@
--- `list_record::record_with` meets its contract: what is found has room (place-fits), and storing there is the recording or the hold
--- (recorded-at). Assumes nothing.
+-- `list_record::record_with` meets its contract: what is found has room (place_fits), and storing there is the recording or the hold
+-- (recorded_at). Assumes nothing.
 use Prim.Native.Nat.{ℕ}
 use mathlib.Core.Path.{◌≡◌}
 use borrow.Author.Rules.{rules}

@@ -2,13 +2,11 @@
 use Prim.Native.Nat.{ℕ, ◌+◌, ◌*◌, ◌≤◌, ◌<◌}
 use mathlib.Core.Path.{◌≡◌, refl}
 use mathlib.Core.List.{List}
-use native.Mathlib.Omega.{arith}
 use borrow.Author.Rules.{rules}
 use lib.ListN.{length}
 use Rattle.words.specs.Answers.{Answer}
 use Rattle.words.specs.Limits.{multiplicity_limit}
 use Rattle.words.specs.Outcomes.{Leaves}
-use Rattle.words.specs.declared.Refusal.{Refusal}
 use Rattle.isa.specs.declared.U32TableEntry.{U32TableEntry}
 use Rattle.isa.specs.Entries.{entry_width}
 use Rattle.list.specs.declared.Sizes.{Sizes}
