@@ -1,14 +1,14 @@
 -- Two entries of different opcodes, one recorded after the other. Storing the first changes neither the second's key nor its multiplicity; only where
--- both keys are new does the second find one unused place fewer. So its place is known before the first is stored (both-places), and from that the
+-- both keys are new does the second find one unused place fewer. So its place is known before the first is stored (both_places), and from that the
 -- three ways of recording both: the first refused, the second refused, both stored. Assumes nothing.
 use Prim.Native.Nat.{ℕ, ◌+◌, ◌≤◌, ◌<◌}
 use mathlib.Core.Path.{◌≡◌, refl, sym, ap, ◌∙◌}
-use mathlib.Core.Bool.{Bool, true, false, ◌&&◌}
+use mathlib.Core.Bool.{Bool, true, false}
 use mathlib.Core.List.{[], ◌∷◌}
 use mathlib.Core.Logic.{◌≢◌}
 use native.Mathlib.Omega.{arith}
 use lib.Dec.{ltb}
-use borrow.Author.Tests.{ltb-true, ltb-false, lt-ltb, le-ltb, ne_eqb}
+use borrow.Author.Tests.{ltb-true, ltb-false, ne_eqb}
 use Rattle.words.specs.Answers.{Answer, done, declined}
 use Rattle.words.specs.Outcomes.{Outcome, Leaves}
 use Rattle.words.specs.declared.Judgement.{Judgement}
@@ -20,13 +20,13 @@ use Rattle.isa.specs.Entries.{judge_entry, admitted}
 use Rattle.isa.proofs.Entries.{opcode_admitted}
 use Rattle.list.specs.declared.Sizes.{Sizes}
 use Rattle.list.specs.Lists.{capacity, used, multiplicity_at, entry_at, count_full}
-use Rattle.list.specs.Keys.{same_key, find_key}
+use Rattle.list.specs.Keys.{same_key}
 use Rattle.list.specs.Holds.{HeldList, hold_at, held_shape}
 use Rattle.list.proofs.Finding.{same_key_equal, find_within, find_holds}
 use Rattle.list.proofs.HeldLists.{HeldShaped, held_shaped}
 use Rattle.list_record.specs.declared.Place.{Place}
 use Rattle.list_record.specs.declared.Place.TheVariants.{Known, New, Refused}
-use Rattle.list_record.specs.Recording.{place_in, known, place_reason, record_reason, raised, appended, record_all, record_each}
+use Rattle.list_record.specs.Recording.{place_in, known, place_reason, record_reason, raised, appended, record_all}
 use Rattle.list_record.specs.Placing.{place_as, place_of, stored_at, Fits}
 use Rattle.list_record.proofs.RecordingCases.{place_known, place_full, place_new, no_place, shape_declined, entry_declined, place_admitted}
 use Rattle.list_record.proofs.RecordingCases.{recorded_at, place_fits, record_keeps_shape}

@@ -1,33 +1,32 @@
--- What a replay is, for every list and trace. It is refused for the shape, or walks (replay-walks).
---   replay-prefix: a replay that did k steps leaves the list that the first k steps alone make, all of them accepted.
---   replay-records: an accepted replay is its steps' entries recorded one after the other.
---   step-admissible: the entries of split, div_mod and the Merkle steps are admitted, so that after 2, 3 and 13 only 5 and 6 are left for them.
+-- What a replay is, for every list and trace. It is refused for the shape, or walks (replay_walks).
+--   replay_prefix: a replay that did k steps leaves the list that the first k steps alone make, all of them accepted.
+--   replay_records: an accepted replay is its steps' entries recorded one after the other.
+--   step_admissible: the entries of split, div_mod and the Merkle steps are admitted, so that after 2, 3 and 13 only 5 and 6 are left for them.
 -- Assumes nothing.
 use Prim.Native.Nat.{ℕ, zero, suc, ◌+◌, ◌*◌, ◌-◌, ◌/◌, ◌%◌, ◌≤◌, ◌<◌}
 use mathlib.Core.Path.{◌≡◌, refl, sym, ap, ◌∙◌}
 use mathlib.Core.Bool.{Bool, true, false, not, cond, ◌&&◌}
 use mathlib.Core.List.{List, [], ◌∷◌, ◌++◌}
-use mathlib.Core.Logic.{◌≢◌, ◌⊎◌, inl, inr}
+use mathlib.Core.Logic.{◌⊎◌, inl, inr}
 use native.Mathlib.Nat.{mod-lt, div-le_self}
 use native.Mathlib.Omega.{arith}
 use lib.Dec.{eqb, ltb}
 use lib.ListN.{length, get_or, take}
 use lib.Seq.{get_or-take, length-take-le}
-use borrow.Author.Tests.{eqb-true, eqb-false, ltb-true, ltb-false}
+use borrow.Author.Tests.{eqb-true, eqb-false, ltb-true}
 use Rattle.field.specs.Elements.{p}
-use Rattle.words.specs.Answers.{Answer, done, declined}
+use Rattle.words.specs.Answers.{done}
 use Rattle.words.specs.Outcomes.{Outcome}
 use Rattle.words.specs.declared.Judgement.{Judgement}
 use Rattle.words.specs.declared.Judgement.TheVariants.{Fine, Declined}
 use Rattle.words.specs.declared.Refusal.TheVariants.{Shape, Wide, ZeroDivisor}
-use Rattle.words.proofs.Judgements.{or_both, decline_not_fine, fine_not_declined}
-use Rattle.isa.specs.declared.U32TableEntry.{U32TableEntry}
+use Rattle.words.proofs.Judgements.{or_both, decline_not_fine}
 use Rattle.isa.specs.Opcodes.{op_split, op_lt, op_div_mod, op_merkle_step, op_merkle_step_mem, is_opcode}
 use Rattle.isa.specs.Entries.{entry, rhs_limit, judge_entry}
-use Rattle.isa.proofs.Entries.{Admissible, admissible_fine}
+use Rattle.isa.proofs.Entries.{admissible_fine}
 use Rattle.list.specs.Holds.{HeldList, held_shape}
-use Rattle.list_record.specs.Recording.{record_all, record_each}
-use Rattle.list_record.proofs.RecordEach.{number_of, each_done, each_append}
+use Rattle.list_record.specs.Recording.{record_each}
+use Rattle.list_record.proofs.RecordEach.{number_of, each_append}
 use Rattle.list_replay.specs.declared.StepEntries.{StepEntries}
 use Rattle.list_replay.specs.declared.StepEntries.TheVariants.{One, Two, Refused}
 use Rattle.list_replay.specs.Steps.{Step, step_width, step_at, split_step, div_mod_step, merkle_step, step_entries, entries_of}

@@ -1,7 +1,7 @@
--- Steps and walks, as the code goes through them: entries recorded together are all recorded or none is (together-done, together-refused); a
--- step is what its entries make of it (step-as), and leaves the list where it is refused (step_left); a walk goes on after an accepted step, ends
--- at a refused one, and at the last (walk-on, walk-stops, walk_ends). Assumes nothing.
-use Prim.Native.Nat.{ℕ, zero, suc, ◌+◌, ◌-◌, ◌/◌, ◌%◌, ◌≤◌, ◌<◌}
+-- Steps and walks, as the code goes through them: entries recorded together are all recorded or none is (together_done, together_refused); a
+-- step is what its entries make of it (step_as_lem), and leaves the list where it is refused (step_left); a walk goes on after an accepted step, ends
+-- at a refused one, and at the last (walk_on, walk_stops, walk_ends). Assumes nothing.
+use Prim.Native.Nat.{ℕ, suc, ◌+◌, ◌-◌, ◌/◌, ◌%◌, ◌≤◌, ◌<◌}
 use mathlib.Core.Path.{◌≡◌, refl, sym, ap, ◌∙◌}
 use mathlib.Core.Bool.{Bool, true, false, cond, not, ◌&&◌, ◌||◌}
 use mathlib.Core.List.{List, [], ◌∷◌}
@@ -10,7 +10,7 @@ use native.Mathlib.Omega.{arith}
 use native.Mathlib.Numerals.{add-one}
 use lib.Dec.{eqb, ltb}
 use lib.ListN.{length}
-use borrow.Author.Tests.{eqb-true, eqb-false, eq-eqb, ne_eqb}
+use borrow.Author.Tests.{eq-eqb, ne_eqb}
 use Rattle.field.specs.Elements.{p}
 use Rattle.words.specs.Answers.{Answer, done, declined}
 use Rattle.words.specs.Refusals.{refusal_number}
@@ -28,7 +28,7 @@ use Rattle.list.specs.Holds.{HeldList, held_shape}
 use Rattle.list_record.specs.declared.Recorded.{Recorded}
 use Rattle.list_record.specs.declared.Recorded.TheVariants.{At, Refused as NotRecorded}
 use Rattle.list_record.specs.Recording.{record_all, record_each, recorded_answer}
-use Rattle.list_record.proofs.RecordEach.{number_of, refused_left, each_accepted, each_refused, each_done}
+use Rattle.list_record.proofs.RecordEach.{number_of, refused_left, each_accepted, each_refused}
 use Rattle.list_replay.specs.declared.StepEntries.{StepEntries}
 use Rattle.list_replay.specs.declared.StepEntries.TheVariants.{One, Two, Refused}
 use Rattle.list_replay.specs.declared.Replayed.TheVariants.{Done, Stopped}

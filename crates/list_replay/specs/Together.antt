@@ -1,4 +1,4 @@
--- The places of two entries, both found before the first is stored. No contract of a call cites this page; proofs/BothPlaces.antt: both-places says
+-- The places of two entries, both found before the first is stored. No contract of a call cites this page; proofs/BothPlaces.antt: both_places says
 -- that the second is the place which the list has for it once the first is stored.
 use Rattle.std.specs.Prelude.{◌+◌, cond, ltb}
 use Rattle.words.specs.declared.Judgement.{Judgement}

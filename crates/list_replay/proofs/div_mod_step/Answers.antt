@@ -9,7 +9,6 @@ use Rattle.isa.specs.Opcodes.{op_split, op_lt}
 use Rattle.isa.specs.Entries.{entry, rhs_limit}
 use Rattle.list_replay.specs.declared.StepEntries.TheVariants.{Two, Refused}
 use Rattle.list_replay.specs.Steps.{div_mod_step}
-use borrow.Author.Rules.{rules}
 use Rattle.list_replay.proofs.div_mod_step.Goals as goal
 
 module _ (n d : ℕ) where

@@ -8,7 +8,6 @@ use Rattle.isa.specs.Opcodes.{op_split}
 use Rattle.isa.specs.Entries.{entry, rhs_limit}
 use Rattle.list_replay.specs.declared.StepEntries.TheVariants.{One, Refused}
 use Rattle.list_replay.specs.Steps.{merkle_step}
-use borrow.Author.Rules.{rules}
 use Rattle.list_replay.proofs.merkle_step.Goals as goal
 
 below : (i : ℕ) {e : U32TableEntry} → i < rhs_limit → e ≡ entry op_split i (i / 2) → One e ≡ merkle_step i

@@ -5,7 +5,6 @@ use Rattle.words.specs.declared.Judgement.TheVariants.{Declined}
 use Rattle.list_record.specs.declared.Place.{Place}
 use Rattle.list_record.specs.declared.Place.TheVariants.{Refused}
 use Rattle.list_replay.specs.Together.{reason_at}
-use borrow.Author.Rules.{rules}
 use Rattle.list_replay.proofs.reason_at.Goals as goal
 
 refused : {p : Place} {k : Refusal} → p ≡ Refused k → Declined k ≡ reason_at p

@@ -1,4 +1,4 @@
--- `list_replay::record_both` meets its contract: both places are found ahead (both-places), so that nothing is stored before both are accepted.
+-- `list_replay::record_both` meets its contract: both places are found ahead (both_places), so that nothing is stored before both are accepted.
 -- Assumes nothing.
 use mathlib.Core.Path.{◌≡◌, sym, ◌∙◌}
 use Rattle.isa.specs.declared.U32TableEntry.{U32TableEntry}
@@ -33,8 +33,7 @@ store-half-requires c = (
 
 pub store-whole-requires : goal.store-whole-requires
 store-whole-requires c =
-    let fine = sym c.reason_at.ensures ∙ c.in_default.is in
-    (
+    let fine = sym c.reason_at.ensures ∙ c.in_default.is in (
       search rules,
       search rules,
       second_fits _ _ _ _ c.find_place-first.ensures c.requires _ _ c.find_place-ahead.ensures c.second_place-second.ensures fine _

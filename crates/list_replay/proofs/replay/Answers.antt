@@ -1,20 +1,10 @@
 -- `list_replay::replay` meets its contract. The loop's invariant: the walk from the step that is reached on, over the list as it is, is the walk
 -- from step 0 over the list as it was lent. Assumes nothing.
-use Prim.Native.Nat.{ℕ, ◌+◌, ◌-◌, ◌≤◌, ◌<◌}
-use mathlib.Core.Path.{◌≡◌, refl, sym, ap, ◌∙◌}
-use mathlib.Core.List.{List}
+use mathlib.Core.Path.{refl, sym, ◌∙◌}
 use native.Mathlib.Omega.{arith}
 use borrow.Author.Rules.{rules}
 use native.Mathlib.Nat.{sub-zero}
-use lib.ListN.{length}
-use Rattle.words.specs.Outcomes.{Outcome, Leaves, completed_answer}
-use Rattle.words.specs.declared.Completed.{Completed}
-use Rattle.words.specs.declared.Completed.TheVariants.{Done, Refused}
-use Rattle.words.specs.declared.Refusal.{Refusal}
-use Rattle.list.specs.Holds.{HeldList, held_list}
-use Rattle.list_replay.specs.declared.Replayed.TheVariants.{Done as AllDone, Stopped}
 use Rattle.list_replay.specs.Steps.{step_at}
-use Rattle.list_replay.specs.Replay.{step_all, replay_from, replay_all, replayed_answer}
 use Rattle.list_replay.proofs.Walks.{shape_stops, torn_stops, walks, walk_goes_on, walk_stopped, walk_ended}
 use Rattle.list_replay.proofs.replay.Goals as goal
 
@@ -39,20 +29,19 @@ returns-in-Refused c =
 
 pub loop-i-preserved : goal.loop-i-preserved
 unfolding step_at
-loop-i-preserved c =
+loop-i-preserved c = (
+  omega arith,
+  (
+    search rules,
     (
-      omega arith,
+      search rules,
       (
         search rules,
-        (
-          search rules,
-          (
-            search rules,
-            walk_goes_on _ _ _ _ _ c.loop-i-test.true c.loop-i.invariant.1.1.1.1 c.replay_step-r.ensures c.in_default-answer.is,
-          ),
-        ),
+        walk_goes_on _ _ _ _ _ c.loop-i-test.true c.loop-i.invariant.1.1.1.1 c.replay_step-r.ensures c.in_default-answer.is,
       ),
-    )
+    ),
+  ),
+)
 
 pub returns : goal.returns
 returns c =

@@ -7,7 +7,6 @@ use Rattle.list_replay.specs.declared.StepEntries.{StepEntries}
 use Rattle.list_replay.specs.Steps.{Step, step_entries}
 use Rattle.list_replay.specs.Replay.{step_as, step_all}
 use Rattle.list_replay.proofs.Walks.{one_done, one_refused, step_as_lem, two_differ}
-use borrow.Author.Rules.{rules}
 use Rattle.list_replay.proofs.replay_step.Goals as goal
 
 as_step : (h : HeldList) (s : Step) {es told : StepEntries} {a : Answer} {after : HeldList}

@@ -10,7 +10,6 @@ use Rattle.list.specs.declared.Sizes.{Sizes}
 use Rattle.list_record.specs.declared.Place.{Place}
 use Rattle.list_record.specs.declared.Place.TheVariants.{Known, New, Refused}
 use Rattle.list_replay.specs.Together.{second_place}
-use borrow.Author.Rules.{rules}
 use Rattle.list_replay.proofs.second_place.Goals as goal
 
 module _ (s : Sizes) {first second : Place} {e : U32TableEntry} (new : first ≡ New e) where

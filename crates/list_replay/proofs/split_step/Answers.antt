@@ -9,7 +9,6 @@ use Rattle.isa.specs.Opcodes.{op_split}
 use Rattle.isa.specs.Entries.{entry}
 use Rattle.list_replay.specs.declared.StepEntries.TheVariants.{One, Refused}
 use Rattle.list_replay.specs.Steps.{split_step}
-use borrow.Author.Rules.{rules}
 use Rattle.list_replay.proofs.split_step.Goals as goal
 
 below : (v : ℕ) {e : U32TableEntry} → v < p → e ≡ entry op_split (v % 4294967296) (v / 4294967296) → One e ≡ split_step v

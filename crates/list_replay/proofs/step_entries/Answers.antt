@@ -1,5 +1,4 @@
 -- `list_replay::step_entries` meets its contract. In an arm the opcode is known, so the definition computes to that arm. Assumes nothing.
-use Prim.Native.Nat.{ℕ}
 use mathlib.Core.Path.{◌≡◌, sym, ap, ◌∙◌}
 use mathlib.Core.Logic.{◌⊎◌, inl, inr}
 use borrow.Author.Tests.{ne_eqb}
@@ -76,4 +75,4 @@ pub returns-in-36 : goal.returns-in-36
 returns-in-36 c = c.merkle_step.ensures ∙ sym (at_merkle _ c.in-36.is)
 
 pub returns-in_default : goal.returns-in_default
-returns-in_default c = let rest = c.in_default.in_default-own.rest in sym (stranger _ rest.0.0.0.0.0.1 rest.0.0.0.0.1 rest.0.0.0.1 rest.0.0.1 rest.0.1 rest.1)
+returns-in_default c = sym (stranger _ (search rules) (search rules) (search rules) (search rules) (search rules) (search rules))
