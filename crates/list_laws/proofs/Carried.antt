@@ -1,6 +1,6 @@
--- What is true of a list's places and of what was counted, and stays so by each kind of change (Carried), is true after any calls (calls-carry). A call
+-- What is true of a list's places and of what was counted, and stays so by each kind of change (Carried), is true after any calls (calls_carry). A call
 -- that is accepted is one of four changes: a place's count grows by one, or only its holds change, or a key is appended with 1, or with 0; a replay is as
--- many recordings as the steps it did have entries. A call that is refused changes and counts nothing. No call changes the shape (calls-shaped).
+-- many recordings as the steps it did have entries. A call that is refused changes and counts nothing. No call changes the shape (calls_shaped).
 -- Assumes nothing.
 use Prim.Native.Nat.{ℕ, ◌+◌, ◌-◌, ◌≤◌}
 use mathlib.Core.Path.{◌≡◌, refl, sym, ap, ◌∙◌, subst}
@@ -103,7 +103,7 @@ module _ (S : View → List U32TableEntry → Type 0) (carry : Carried S) where
   -- recordings one after the other, all accepted
   each_carries : (h : HeldList) (fs es : List U32TableEntry) → number_of (record_each h fs) ≡ 0
       → S (view_of h) es → S (view_of (record_each h fs).left) (es ++ map admitted fs)
-  unfolding record_each map
+  unfolding record_each
   each_carries h [] es z s = counts_none h es s
   each_carries h (e ∷ fs) es z s =
       let first = each_first h e fs z in

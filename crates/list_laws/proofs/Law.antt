@@ -1,4 +1,4 @@
--- THE LAW of request 6 (multiplicity-is): after any calls from a fresh list, the multiplicity at a used place is how often its key was counted, and a key
+-- THE LAW of request 6 (multiplicity_is): after any calls from a fresh list, the multiplicity at a used place is how often its key was counted, and a key
 -- at no used place was not counted. No key stands at two used places, and each kind of change keeps both. Assumes nothing.
 use mathlib.Core.Path.{refl}
 use mathlib.Core.List.{List, []}

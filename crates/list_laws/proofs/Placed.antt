@@ -1,4 +1,4 @@
--- What is counted stands at a used place (counted-placed): else it would not be counted, by the law. Assumes nothing.
+-- What is counted stands at a used place (counted_placed): else it would not be counted, by the law. Assumes nothing.
 use Prim.Native.Nat.{ℕ, ◌<◌}
 use mathlib.Core.Path.{◌≡◌, refl}
 use mathlib.Core.Bool.{Bool, true, false}

@@ -1,5 +1,5 @@
 -- A place's count is the number of times that its key was counted, and a key at no used place was not counted (Tallied). Each kind of change keeps this:
--- a count more and the key counted once more (tally-counted, tally-new), or neither (tally-kept, tally-none). Assumes nothing.
+-- a count more and the key counted once more (tally_counted, tally_new), or neither (tally_kept, tally_none). Assumes nothing.
 use Prim.Native.Nat.{ℕ, ◌+◌, ◌<◌}
 use mathlib.Core.Path.{◌≡◌, refl, sym, ◌∙◌}
 use mathlib.Core.Bool.{Bool, true, false, cond}
