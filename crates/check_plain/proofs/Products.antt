@@ -56,6 +56,7 @@ Among ci (o ∷ os) = (ci ≡ o) ⊎ Among ci os
 
 deselect_among : (product : ℕ) (os : List ℕ) (selected ci : ℕ) → ci ≢ selected → Among ci os → deselect_from product os selected ci ≡ 0
 unfolding deselect_from
+deselect_among product [] selected ci n h = elim h [ ]
 deselect_among product (o ∷ os) selected ci n (inl e) = go (eqb o selected) refl
   where
     go : (t : Bool) → eqb o selected ≡ t → deselect_from product (o ∷ os) selected ci ≡ 0

@@ -15,5 +15,5 @@ overflow_mul-result c = omega (arith, low_bits_product c.args.lhs c.args.rhs)
 
 pub returns : goal.returns
 returns c = λ e.
-    let bit : c.args.result % 2 ≡ c.args.lhs % 2 * (c.args.rhs % 2) = eqb-true _ _ e in
+    let bit : c.args.res % 2 ≡ c.args.lhs % 2 * (c.args.rhs % 2) = eqb-true _ _ e in
     omega arith

@@ -16,7 +16,7 @@ pub returns-then-lower-eq1 : goal.returns-then-lower-eq1
 unfolding row_of
 returns-then-lower-eq1 c =
     let one = c.if-lower-eq1.true in
-    λ e. zero_transition _ _ _ _ _ (seam (c.is_end.ensures (not-false _ c.if-not-is_end.false-raw)) one)
+    λ e. zero_transition _ _ _ _ _ (seam (c.is_end.ensures (search rules)) one)
     (sum_accumulates _ _ _ _ one (c.accumulates.ensures e))
 
 pub returns-then-not-is_step : goal.returns-then-not-is_step
@@ -25,5 +25,5 @@ returns-then-not-is_step c = λ e. absurd (false≢true e)
 pub returns : goal.returns
 unfolding row_of
 returns c =
-    let step = c.is_step.ensures (not-false _ c.if-not-is_step.false-raw) in
+    let step = c.is_step.ensures (search rules) in
     λ e. zero_transition _ _ _ _ _ (step_zero step) (sum_stays _ _ _ _ step.flag (c.same_words.ensures e))

@@ -27,10 +27,10 @@ unfolding row_of
 returns c =
     let row = c.args.row in
     λ e. zero_consistency _ (plain_zero (record {
-      flagged = c.is_flagged.ensures (not-false _ c.if-not-is_flagged.false-raw);
+      flagged = c.is_flagged.ensures (search rules);
       bits_inverse =
           (λ i. mul_f row.bits_minus_33_inv.0 (sym c.sub-bits_minus_33.ensures i)) ∙ sym c.mul.ensures ∙ c.if-mul-ne1.false;
-      lhs_inverse_lem = c.is_inverted.ensures (not-false _ c.if-not-is_inverted.false-raw);
-      rhs_inverse_lem = c.is_inverted-2.ensures (not-false _ c.if-not-is_inverted-2.false-raw);
+      lhs_inverse_lem = c.is_inverted.ensures (search rules);
+      rhs_inverse_lem = c.is_inverted-2.ensures (search rules);
       ended = c.is_ended.ensures e;
     }))

@@ -21,9 +21,9 @@ pub returns : goal.returns
 unfolding row_of
 returns c =
     λ e. record {
-      c = c.if-lower-ne0.false;
+      flag = c.if-lower-ne0.false;
       ci_same = c.if-lower-upper.false;
-      bits_next = c.is_counted.ensures (not-false _ c.if-not-is_counted.false-raw);
+      bits_next = c.is_counted.ensures (search rules);
       rhs_half = c.if-lower-upper-2.false;
       carried = c.is_carried.ensures e;
     }
