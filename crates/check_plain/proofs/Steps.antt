@@ -7,7 +7,7 @@ use mathlib.Core.Logic.{◌≢◌, ◌⊎◌, inl, inr}
 use native.Mathlib.Omega.{arith}
 use native.Mathlib.Decide.{ℕ_discrete}
 use lib.Dec.{lit<}
-use Rattle.field.specs.Elements.{p, add_f, sub_f, mul_f}
+use Rattle.field.specs.Elements.{p, sub_f, mul_f}
 use Rattle.field.proofs.Laws.{bit_of_half, mul_f_small, sub_f_more, sub_f_double}
 use Rattle.isa.specs.Opcodes.{op_lt, op_log2_floor, op_and, op_pop_count, op_pow}
 use Rattle.isa.proofs.Entries.{OneOfSix}

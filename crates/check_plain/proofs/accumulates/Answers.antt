@@ -1,5 +1,4 @@
 -- `check_plain::accumulates` meets its contract: the value is the one that the constraint asks for, and it is found to be zero. Assumes nothing.
-use borrow.Author.Rules.{rules}
 use mathlib.Core.Path.{sym, ◌∙◌}
 use Rattle.xfield.specs.Extension.{sub_x, mul_x, scale_x}
 use Rattle.air.specs.Constraints.{base_value, if_copy_flag_next_is_1_then_running_sum_log_derivative_accumulates_next_row}

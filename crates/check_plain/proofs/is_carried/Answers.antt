@@ -1,5 +1,4 @@
 -- `check_plain::is_carried` meets its contract: each arm has its opcode. Assumes nothing.
-use borrow.Author.Rules.{rules}
 use mathlib.Core.Path.{◌∙◌}
 use mathlib.Core.Bool.{false≢true}
 use borrow.Author.Tests.{eqb-true}

@@ -1,5 +1,4 @@
 -- `check_plain::is_counted` meets its contract: Bits is one more, or the row ends its section. Assumes nothing.
-use borrow.Author.Rules.{rules}
 use mathlib.Core.Logic.{inl, inr}
 use native.Mathlib.Omega.{arith}
 use Rattle.check_plain.proofs.is_counted.Goals as goal

@@ -1,6 +1,5 @@
 -- `check_plain::is_ended` meets its contract: each arm has its opcode, and each way out its tests: an operand that is not 0, or Result. Assumes
 -- nothing.
-use borrow.Author.Rules.{rules}
 use mathlib.Core.Bool.{false≢true}
 use borrow.Author.Tests.{eqb-true}
 use Rattle.check_plain.specs.Plain.{Ended}

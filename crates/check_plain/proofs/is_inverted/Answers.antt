@@ -1,5 +1,4 @@
 -- `check_plain::is_inverted` meets its contract: both are 0, or the product is 1. Assumes nothing.
-use borrow.Author.Rules.{rules}
 use mathlib.Core.Path.{sym, ◌∙◌}
 use mathlib.Core.Logic.{inl, inr}
 use borrow.Author.Tests.{eqb-true}

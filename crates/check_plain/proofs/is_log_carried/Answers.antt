@@ -1,5 +1,4 @@
 -- `check_plain::is_log_carried` meets its contract: each way out is a case of `LogCarried`. Assumes nothing.
-use borrow.Author.Rules.{rules}
 use mathlib.Core.Path.{sym, ◌∙◌}
 use mathlib.Core.Bool.{false≢true}
 use borrow.Author.Tests.{eqb-true}

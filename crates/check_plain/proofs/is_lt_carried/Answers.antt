@@ -1,5 +1,4 @@
 -- `check_plain::is_lt_carried` meets its contract: each way out is a case of `LtCarried`. Assumes nothing.
-use borrow.Author.Rules.{rules}
 use mathlib.Core.Bool.{false≢true}
 use native.Mathlib.Omega.{arith}
 use borrow.Author.Tests.{eqb-true}

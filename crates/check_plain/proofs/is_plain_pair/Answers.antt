@@ -2,7 +2,6 @@
 -- the sum is accumulated, or stays (proofs/Sums.antt). Assumes nothing.
 use borrow.Author.Rules.{rules}
 use mathlib.Core.Bool.{false≢true}
-use borrow.Author.Tests.{not-false}
 use Rattle.air.proofs.Lists.{zero_transition}
 use Rattle.table.specs.Layouts.{row_of}
 use Rattle.check_plain.proofs.Steps.{step_zero, seam}

@@ -3,7 +3,6 @@
 use borrow.Author.Rules.{rules}
 use mathlib.Core.Path.{sym, ◌∙◌}
 use mathlib.Core.Bool.{false≢true}
-use borrow.Author.Tests.{not-false}
 use Rattle.field.specs.Elements.{mul_f}
 use Rattle.air.proofs.Lists.{zero_consistency}
 use Rattle.table.specs.Layouts.{row_of}

@@ -1,6 +1,5 @@
 -- `check_plain::is_pow_carried` meets its contract: each way out is a case of `PowCarried`. Assumes nothing.
 use Prim.Native.Nat.{ℕ}
-use borrow.Author.Rules.{rules}
 use mathlib.Core.Path.{ap, ◌∙◌}
 use native.Mathlib.Omega.{arith}
 use borrow.Author.Tests.{eqb-true}

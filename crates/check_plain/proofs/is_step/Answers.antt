@@ -1,7 +1,6 @@
 -- `check_plain::is_step` meets its contract: the tests are the parts of a step. Assumes nothing.
 use borrow.Author.Rules.{rules}
 use mathlib.Core.Bool.{false≢true}
-use borrow.Author.Tests.{not-false}
 use Rattle.table.specs.Layouts.{row_of}
 use Rattle.check_plain.proofs.is_step.Goals as goal
 
