@@ -1,7 +1,7 @@
 /* The U32 table of Triton VM, proved: record, hold, confirm, drop, replay, compare, plan, read, write, fill, pad, extend, check, client_sum; and of
  * the lookup tables beside it: look_up, byte_lookup, cascade_lookup, byte_sum, cascade_sum; and archive and restore, which keep a table as bytes.
  *
- * The functions stand in crates/u32_table. `rt staticlib u32_table` proves them and writes target/staticlib/libu32_table.a for x86-64 Linux:
+ * The functions stand in crates/u32_table. `tools/build u32_table` proves them and writes target/staticlib/libu32_table.a for x86-64 Linux:
  *
  *     cc -Iinclude program.c target/staticlib/libu32_table.a
  *
