@@ -1,5 +1,5 @@
--- What each way out of a call of one of the two recorders leaves, said of the definition `beside` (beside-wrong, beside-done), and that clearing places past
--- an array's end changes nothing (clear-capped). Assumes nothing.
+-- What each way out of a call of one of the two recorders leaves, said of the definition `beside` (beside_wrong, beside_done), and that clearing places past
+-- an array's end changes nothing (clear_capped). Assumes nothing.
 use Prim.Native.Nat.{ℕ, zero, suc, ◌+◌, ◌-◌, ◌≤◌, ◌<◌}
 use mathlib.Core.Path.{◌≡◌, refl, sym, ap, ◌∙◌}
 use mathlib.Core.Bool.{Bool, true, false, not, ◌&&◌}

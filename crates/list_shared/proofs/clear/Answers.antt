@@ -1,5 +1,4 @@
--- `list_shared::clear` meets its contract: up to the array's end, past which there is nothing to clear (clear-capped), or up to `to`. Assumes nothing.
-use borrow.Author.Rules.{rules}
+-- `list_shared::clear` meets its contract: up to the array's end, past which there is nothing to clear (clear_capped), or up to `to`. Assumes nothing.
 use Rattle.list_shared.proofs.Beside.{clear_capped}
 use Rattle.list_shared.proofs.clear.Goals as goal
 

@@ -1,5 +1,4 @@
 -- `list_shared::clear_other` meets its contract: what `clear` leaves of each array. Assumes nothing.
-use borrow.Author.Rules.{rules}
 use Rattle.list_shared.proofs.clear_other.Goals as goal
 
 pub returns : goal.returns
