@@ -16,14 +16,14 @@ pub returns-in-Batches : goal.returns-in-Batches
 returns-in-Batches c =
     let call = c.batches in
     let left = c.if-answers-lt-BATCHES_ANSWERS.false in record {
-      answers = work_done left (ap batched_answer (sym c.in-Batches.is) ∙ call.ensures.0.answer) (omega arith);
-      results = lent_called _ _ _ _ _ left call.ensures.0.left;
+      answers = work_done left (ap batched_answer (sym c.in-Batches.is) ∙ call.ensures.exact.answer) (omega arith);
+      results = lent_called _ _ _ _ _ left call.ensures.exact.left;
     }
 
 pub returns-in-Refused : goal.returns-in-Refused
 returns-in-Refused c =
     let call = c.batches in
     let left = c.if-answers-lt-BATCHES_ANSWERS.false in record {
-      answers = refused c.in-Refused.reason left c.number.ensures (ap batched_answer (sym c.in-Refused.is) ∙ call.ensures.0.answer);
-      results = lent_called _ _ _ _ _ left call.ensures.0.left;
+      answers = refused c.in-Refused.reason left c.number.ensures (ap batched_answer (sym c.in-Refused.is) ∙ call.ensures.exact.answer);
+      results = lent_called _ _ _ _ _ left call.ensures.exact.left;
     }
