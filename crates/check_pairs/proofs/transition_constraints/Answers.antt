@@ -17,7 +17,7 @@ returns c =
     let b = c.base_transition.ensures in
     let lower = row_of c.args.lower in
     let sum = sum_of c.args.aux in
-    let next = sum_of c.args.aux-next in
+    let next = sum_of c.args.aux_next in
     let stays : ext_of c.running_sum_transition-running_sum.result.stays
     ≡ if_copy_flag_next_is_0_then_running_sum_log_derivative_stays lower sum next =
     c.running_sum_transition-running_sum.ensures.stays in
