@@ -3,14 +3,13 @@ use mathlib.Core.Path.{sym, ap, ◌∙◌}
 use native.Mathlib.Omega.{arith}
 use Rattle.batches.specs.Batches.{batched_answer}
 use Rattle.c_answers.proofs.Exporting.{short, lent_short, lent_called, work_done, refused}
-use borrow.Author.Rules.{rules}
 use Rattle.c_batches.proofs.batches.Goals as goal
 
 pub returns-then-answers-lt-BATCHES_ANSWERS : goal.returns-then-answers-lt-BATCHES_ANSWERS
 returns-then-answers-lt-BATCHES_ANSWERS c = record {
-      answers = short _ _ _ c.if-answers-lt-BATCHES_ANSWERS.true;
-      results = lent_short _ _ _ _ c.if-answers-lt-BATCHES_ANSWERS.true;
-    }
+  answers = short _ _ _ c.if-answers-lt-BATCHES_ANSWERS.true;
+  results = lent_short _ _ _ _ c.if-answers-lt-BATCHES_ANSWERS.true;
+}
 
 pub returns-in-Batches : goal.returns-in-Batches
 returns-in-Batches c =
