@@ -8,41 +8,11 @@ use Rattle.c_answers.proofs.Exporting.{short, work_done, refused_by_number}
 use Rattle.c_lists.proofs.Listed.{recorded, shared_short, shared_called}
 use Rattle.c_lists.proofs.record_entry.Goals as goal
 
-record-shared-requires c κs = search rules
-
-record_entry_spec =
-    tie.close
-    (tie.spec
-    returns
-    record-shared-requires
-    enum-known-answer
-    slice-write-answers
-    slice-write-answers-2
-    enum-known-answer-2
-    number-requires
-    same_length
-    same_length_2
-    same_length_3
-    same-length-4
-    same-length-5
-    same-length-6
-    returns_2
-    same-length-7
-    same-length-8
-    same-length-9
-    same-length-10
-    same-length-11
-    returns_3)
-
 pub returns-then-answers-lt-RECORD_ANSWERS : goal.returns-then-answers-lt-RECORD_ANSWERS
 returns-then-answers-lt-RECORD_ANSWERS c = record {
       answers = short _ _ _ c.if-answers-lt-RECORD_ANSWERS.true;
       list = shared_short _ _ _ _ c.if-answers-lt-RECORD_ANSWERS.true;
     }
-
-pub record_shared-r-requires : goal.record_shared-r-requires
-record_shared-r-requires c = ?
-{-  -}
 
 pub returns-in-At : goal.returns-in-At
 returns-in-At c =
