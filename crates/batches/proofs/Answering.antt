@@ -1,5 +1,5 @@
 -- The ways out of the calls `try_setting` and `batches`, reason by reason, and the law of request 12 as a statement over the definitions that the
--- contracts cite (batches-law): it holds of every list of jobs that is accepted. Assumes nothing.
+-- contracts cite (batches_law): it holds of every list of jobs that is accepted. Assumes nothing.
 use Prim.Native.Nat.{ℕ, ◌*◌, ◌-◌, ◌/◌, ◌%◌, ◌≤◌, ◌<◌}
 use mathlib.Core.Path.{◌≡◌, refl, sym, ap, ◌∙◌}
 use mathlib.Core.Bool.{Bool, true, false, not, ◌||◌}

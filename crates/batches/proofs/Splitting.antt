@@ -1,5 +1,5 @@
 -- How the jobs are split into batches. By induction on the jobs that are still to come, from an open batch whose jobs are given: they and those to
--- come are taken in order (takes). The totals follow from the order alone (splits). And the law leaves one list of batches (takes-only): of two
+-- come are taken in order (takes). The totals follow from the order alone (splits). And the law leaves one list of batches (takes_only): of two
 -- first batches the longer one would have the job with which the shorter one passes the setting. Assumes nothing.
 use Prim.Native.Nat.{ℕ, zero, suc, ◌+◌, ◌*◌, ◌-◌, ◌≤◌, ◌<◌}
 use mathlib.Core.Path.{◌≡◌, refl, sym, ap, ◌∙◌, subst}

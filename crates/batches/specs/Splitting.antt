@@ -1,6 +1,6 @@
 -- The law of request 12: "For every accepted list the batches, none empty, take the jobs in order, each job in one; the batch rows total the job
 -- heights, no batch passes the setting, each would pass it with the next one's first job, and the padding answered is all padded heights minus all
--- rows." It does not speak of how the batches are made, and it leaves only one list of them (proofs/Splitting.antt: takes-only).
+-- rows." It does not speak of how the batches are made, and it leaves only one list of them (proofs/Splitting.antt: takes_only).
 use Rattle.std.specs.Prelude.{ℕ, ◌+◌, ◌*◌, ◌-◌, ◌≤◌, ◌<◌, ◌≡◌, ◌⊎◌, length, get_or, take, drop}
 use mathlib.Core.List.{List, [], ◌∷◌, flat_map}
 use Rattle.batches.specs.Batches.{Batch, all_rows, all_padded, batch_words}

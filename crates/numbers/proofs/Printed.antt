@@ -1,4 +1,4 @@
--- Print, then read: the numbers of printed lines are read back (lines-read). By induction on the digits of a number, whose values only grow, so that none
+-- Print, then read: the numbers of printed lines are read back (lines_read). By induction on the digits of a number, whose values only grow, so that none
 -- is past 64 bits before the last; then on the numbers of a line; then on the lines. Assumes nothing.
 use Prim.Native.Nat.{ℕ, ◌+◌, ◌*◌, ◌-◌, ◌≤◌}
 use mathlib.Core.Path.{◌≡◌, refl, ap, ◌∙◌}

@@ -1,6 +1,6 @@
 -- What `decimal n` is, for every 64-bit n: at least 1 and at most 20 digits, each from `0` to `9`, the first no `0` where there are more,
--- and read as a decimal number they are n (decimal-is). By induction on the digits, from the lowest to the highest. They are what
--- `io::decimal` makes (decimal-made). Assumes nothing.
+-- and read as a decimal number they are n (decimal_is). By induction on the digits, from the lowest to the highest. They are what
+-- `io::decimal` makes (decimal_made). Assumes nothing.
 use Prim.Native.Nat.{ℕ, zero, suc, ◌+◌, ◌*◌, ◌-◌, ◌/◌, ◌%◌, ◌^◌, ◌≤◌, ◌<◌}
 use mathlib.Core.Path.{◌≡◌, refl, ◌∙◌}
 use mathlib.Core.Bool.{Bool, true, false, cond}

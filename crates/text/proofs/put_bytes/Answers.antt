@@ -24,9 +24,6 @@ pub loop-i-preserved : goal.loop-i-preserved
 loop-i-preserved c =
     (search rules, simp length-set (search rules), c.loop-i.invariant.2 ∙ turn c.args.bytes.now c.loop-i.out c.args.at c.loop-i.i (search rules))
 
-pub shape_of-out : goal.shape_of-out
-shape_of-out c = c.loop-i.invariant.1
-
 pub returns : goal.returns
 returns c =
     record {

@@ -45,8 +45,5 @@ overflow_add-next c =
 pub loop-i-preserved : goal.loop-i-preserved
 loop-i-preserved c = turn c.loop-i.i c.args.to c.loop-i.invariant c.requires c.loop-i-test.true
 
-pub shape_of-out : goal.shape_of-out
-shape_of-out c = c.loop-i.invariant.same
-
 pub returns : goal.returns
 returns c = ends c.loop-i.i c.args.to c.loop-i.invariant c.requires c.loop-i-test.false

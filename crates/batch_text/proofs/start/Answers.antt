@@ -1,5 +1,0 @@
--- `batch_text::start` meets its contract.
-use Rattle.batch_text.proofs.start.Goals as goal
-
-pub returns : goal.returns
-returns c = rw c.start.ensures
