@@ -1,5 +1,4 @@
 -- `check_pairs::and_log_2_floor_transition` meets its contract: each answer is made as its definition says, twice a value as a sum. Assumes nothing.
-use mathlib.Core.Path.{refl}
 use Rattle.air.specs.Constraints.{one_minus_product_of}
 use Rattle.table.specs.Layouts.{row_of}
 use Rattle.check_pairs.proofs.Sums.{double}

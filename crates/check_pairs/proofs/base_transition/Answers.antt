@@ -1,6 +1,5 @@
 -- `check_pairs::base_transition` meets its contract: the parts, with the words of the pair, are the constraints of the definition.
 -- Assumes nothing.
-use mathlib.Core.Path.{refl}
 use Rattle.air.specs.Constraints.{ci_is_pow_of, lhs_lsb, rhs_lsb}
 use Rattle.air.specs.Constraints.{if_copy_flag_next_is_0_and_ci_not_pow_then_lhs_lsb_is_a_bit}
 use Rattle.air.specs.Constraints.{if_copy_flag_next_is_0_then_rhs_lsb_is_a_bit}

@@ -1,5 +1,4 @@
 -- `check_pairs::bit_transition` meets its contract: each answer is made as its definition says. Assumes nothing.
-use mathlib.Core.Path.{refl}
 use Rattle.check_pairs.proofs.bit_transition.Goals as goal
 
 pub returns : goal.returns

@@ -1,5 +1,4 @@
 -- `check_pairs::general_transition` meets its contract: each answer is made as its definition says. Assumes nothing.
-use mathlib.Core.Path.{refl}
 use Rattle.air.specs.Constraints.{ci_is_pow_of}
 use Rattle.air.specs.Constraints.{if_copy_flag_next_is_1_then_lhs_is_0_or_ci_is_pow}
 use Rattle.air.specs.Constraints.{if_copy_flag_next_is_1_then_rhs_is_0}

@@ -1,5 +1,4 @@
 -- `check_pairs::least_bits` meets its contract: each answer is made as its definition says, twice a value as a sum. Assumes nothing.
-use mathlib.Core.Path.{refl}
 use Rattle.air.specs.Constraints.{equal_bits}
 use Rattle.check_pairs.proofs.Sums.{double, double_product}
 use Rattle.check_pairs.proofs.least_bits.Goals as goal
@@ -10,7 +9,7 @@ returns c =
     record {
       lhs_bit = rw (c.sub-lhs_lsb.ensures, c.add.ensures, double _);
       rhs_bit = rw (c.sub-rhs_lsb.ensures, c.add-2.ensures, double _);
-      product = rw (c.mul-product.ensures, c.sub-rhs_lsb.ensures, c.add-2.ensures, c.sub-lhs_lsb.ensures, c.add.ensures, double _, double _);
+      product = rw (c.mul-product.ensures, c.sub-rhs_lsb.ensures, c.add-2.ensures, c.sub-lhs_lsb.ensures, c.add.ensures, double c.args.lhs_next.0, double c.args.rhs_next.0);
       equal = rw (
         c.add-4.ensures,
         c.add-3.ensures,
@@ -22,7 +21,7 @@ returns c =
         c.sub-lhs_lsb.ensures,
         c.add.ensures,
         double_product _ _,
-        double _,
-        double _,
+        double c.args.lhs_next.0,
+        double c.args.rhs_next.0,
       );
     }

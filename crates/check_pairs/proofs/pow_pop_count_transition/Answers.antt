@@ -1,5 +1,4 @@
 -- `check_pairs::pow_pop_count_transition` meets its contract: each answer is made as its definition says. Assumes nothing.
-use mathlib.Core.Path.{refl}
 use Rattle.table.specs.Layouts.{row_of}
 use Rattle.check_pairs.proofs.pow_pop_count_transition.Goals as goal
 

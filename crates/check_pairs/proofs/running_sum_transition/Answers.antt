@@ -1,5 +1,4 @@
 -- `check_pairs::running_sum_transition` meets its contract: both values are made as they are asked for. Assumes nothing.
-use mathlib.Core.Path.{refl}
 use Rattle.check_pairs.proofs.running_sum_transition.Goals as goal
 
 pub returns : goal.returns
