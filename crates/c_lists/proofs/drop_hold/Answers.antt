@@ -1,6 +1,5 @@
 -- `c_lists::drop_hold` meets its contract: the number is that of the answer due, and the lent arrays are as the call leaves them. Assumes nothing.
 use mathlib.Core.Path.{sym, ap, ◌∙◌}
-use borrow.Author.Rules.{rules}
 use Rattle.words.specs.Answers.{Answer}
 use Rattle.words.specs.Outcomes.{completed_answer}
 use Rattle.list.specs.Holds.{HeldList}

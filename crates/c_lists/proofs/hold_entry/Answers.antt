@@ -1,7 +1,6 @@
 -- `c_lists::hold_entry` meets its contract: `answers` is too short, or the hold is done, with its two answers, or refused. Assumes nothing.
 use mathlib.Core.Path.{sym, ap, ◌∙◌}
 use native.Mathlib.Omega.{arith}
-use borrow.Author.Rules.{rules}
 use Rattle.words.specs.Answers.{Answer}
 use Rattle.list_record.specs.Recording.{recorded_answer}
 use Rattle.c_answers.proofs.Exporting.{short, work_done, refused_by_number}
@@ -10,9 +9,9 @@ use Rattle.c_lists.proofs.hold_entry.Goals as goal
 
 pub returns-then-answers-lt-HOLD_ANSWERS : goal.returns-then-answers-lt-HOLD_ANSWERS
 returns-then-answers-lt-HOLD_ANSWERS c = record {
-      answers = short _ _ _ c.if-answers-lt-HOLD_ANSWERS.true;
-      list = shared_short _ _ _ _ c.if-answers-lt-HOLD_ANSWERS.true;
-    }
+  answers = short _ _ _ c.if-answers-lt-HOLD_ANSWERS.true;
+  list = shared_short _ _ _ _ c.if-answers-lt-HOLD_ANSWERS.true;
+}
 
 pub returns-in-At : goal.returns-in-At
 returns-in-At c =

@@ -1,6 +1,5 @@
 -- `c_lists::order_number` meets its contract: each order has its number. Assumes nothing.
 use mathlib.Core.Path.{sym, ap}
-use borrow.Author.Rules.{rules}
 use Rattle.c_lists.specs.ListAnswers.{order_number}
 use Rattle.c_lists.proofs.order_number.Goals as goal
 

@@ -1,7 +1,6 @@
 -- `c_lists::plan` meets its contract: `answers` is too short, or the plan is made, or refused. Assumes nothing.
 use mathlib.Core.Path.{sym, ap, ◌∙◌}
 use native.Mathlib.Omega.{arith}
-use borrow.Author.Rules.{rules}
 use Rattle.list_record.specs.Plan.{planned_answer}
 use Rattle.c_answers.proofs.Exporting.{short, work_done, refused}
 use Rattle.c_lists.proofs.plan.Goals as goal

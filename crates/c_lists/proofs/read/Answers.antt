@@ -1,7 +1,6 @@
 -- `c_lists::read` meets its contract: `answers` is too short, or the list is read, or the bytes are refused. Assumes nothing.
 use mathlib.Core.Path.{sym, ap, ◌∙◌}
 use native.Mathlib.Omega.{arith}
-use borrow.Author.Rules.{rules}
 use Rattle.list_stored.specs.Stored.{read_answer}
 use Rattle.c_answers.proofs.Exporting.{short, work_done, refused}
 use Rattle.c_lists.proofs.Listed.{shared_short, shared_called}
@@ -9,9 +8,9 @@ use Rattle.c_lists.proofs.read.Goals as goal
 
 pub returns-then-answers-lt-READ_ANSWERS : goal.returns-then-answers-lt-READ_ANSWERS
 returns-then-answers-lt-READ_ANSWERS c = record {
-      answers = short _ _ _ c.if-answers-lt-READ_ANSWERS.true;
-      list = shared_short _ _ _ _ c.if-answers-lt-READ_ANSWERS.true;
-    }
+  answers = short _ _ _ c.if-answers-lt-READ_ANSWERS.true;
+  list = shared_short _ _ _ _ c.if-answers-lt-READ_ANSWERS.true;
+}
 
 pub returns-in-Entries : goal.returns-in-Entries
 returns-in-Entries c =

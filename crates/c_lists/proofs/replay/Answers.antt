@@ -2,7 +2,6 @@
 -- Assumes nothing.
 use mathlib.Core.Path.{sym, ap, ◌∙◌}
 use native.Mathlib.Omega.{arith}
-use borrow.Author.Rules.{rules}
 use Rattle.list_replay.specs.Replay.{replayed_answer}
 use Rattle.c_answers.proofs.Exporting.{short_reported, reported}
 use Rattle.c_lists.proofs.Listed.{told_with, shared_short, shared_called}
@@ -10,9 +9,9 @@ use Rattle.c_lists.proofs.replay.Goals as goal
 
 pub returns-then-answers-lt-REPLAY_ANSWERS : goal.returns-then-answers-lt-REPLAY_ANSWERS
 returns-then-answers-lt-REPLAY_ANSWERS c = record {
-      answers = short_reported _ _ _ c.if-answers-lt-REPLAY_ANSWERS.true;
-      list = shared_short _ _ _ _ c.if-answers-lt-REPLAY_ANSWERS.true;
-    }
+  answers = short_reported _ _ _ c.if-answers-lt-REPLAY_ANSWERS.true;
+  list = shared_short _ _ _ _ c.if-answers-lt-REPLAY_ANSWERS.true;
+}
 
 pub returns-in-Done : goal.returns-in-Done
 returns-in-Done c =

@@ -1,16 +1,15 @@
 -- `c_lists::write` meets its contract: `answers` is too short, or the list is written, or refused. Assumes nothing.
 use mathlib.Core.Path.{sym, ap, ◌∙◌}
 use native.Mathlib.Omega.{arith}
-use borrow.Author.Rules.{rules}
 use Rattle.list_stored.specs.Stored.{written_answer}
 use Rattle.c_answers.proofs.Exporting.{short, lent_short, lent_called, work_done, refused}
 use Rattle.c_lists.proofs.write.Goals as goal
 
 pub returns-then-answers-lt-WRITE_ANSWERS : goal.returns-then-answers-lt-WRITE_ANSWERS
 returns-then-answers-lt-WRITE_ANSWERS c = record {
-      answers = short _ _ _ c.if-answers-lt-WRITE_ANSWERS.true;
-      bytes = lent_short _ _ _ _ c.if-answers-lt-WRITE_ANSWERS.true;
-    }
+  answers = short _ _ _ c.if-answers-lt-WRITE_ANSWERS.true;
+  bytes = lent_short _ _ _ _ c.if-answers-lt-WRITE_ANSWERS.true;
+}
 
 pub returns-in-Length : goal.returns-in-Length
 returns-in-Length c =
