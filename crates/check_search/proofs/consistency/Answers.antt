@@ -1,16 +1,12 @@
 -- `check_search::consistency` meets its contract. The invariants: the whole search is the search from this row, or from this value of
 -- this row, on, whatever follows it. The measures are the rows and the values that are left. Assumes nothing.
-use Prim.Native.Nat.{ℕ, ◌+◌, ◌-◌, ◌≤◌, ◌<◌}
-use mathlib.Core.Path.{◌≡◌, refl, sym, ap, ◌∙◌, subst}
-use mathlib.Core.List.{map}
+use borrow.Author.Rules.{rules}
+use mathlib.Core.Path.{sym, ap, ◌∙◌, subst}
 use native.Mathlib.Nat.{sub-zero}
 use native.Mathlib.Omega.{arith}
-use lib.ListN.{length, drop}
-use Rattle.words.specs.Answers.{Answer}
-use Rattle.xfield.specs.XFieldElements.{ext_of}
 use Rattle.air.specs.Constraints.{consistency_constraints}
 use Rattle.table.specs.Columns.{Row}
-use Rattle.air.specs.Check.{AllZero, consistency_at, first_in, first_in_rows}
+use Rattle.air.specs.Check.{AllZero}
 use Rattle.air.proofs.Lists.{consistency_length}
 use Rattle.air.proofs.Scan.{row_next, rows_done, values_zero}
 use Rattle.check_search.proofs.Steps.{all_passed, passed, found}
@@ -26,13 +22,12 @@ rows-preserved-then-is_plain_row c =
     (omega arith, λ next. c.rows.invariant.1 next ∙ row_next _ 1 c.rows.row _ next (omega arith) ∙ values_zero 1 c.rows.row 0 _ zero)
 
 pub loop-index-init : goal.loop-index-init
-loop-index-init c =
-    (
-      omega arith,
-      omega arith,
-      c.consistency_constraints-values.ensures ∙ ap consistency_constraints c.at-current.ensures,
-      λ next. c.rows.invariant.1 next ∙ row_next _ 1 c.rows.row _ next (omega arith),
-    )
+loop-index-init c = (
+  omega arith,
+  omega arith,
+  c.consistency_constraints-values.ensures ∙ ap consistency_constraints c.at-current.ensures,
+  λ next. c.rows.invariant.1 next ∙ row_next _ 1 c.rows.row _ next (omega arith),
+)
 
 pub bounds-values-index : goal.bounds-values-index
 bounds-values-index c = c.loop-index-test.true
@@ -43,7 +38,7 @@ loop-index-preserved c =
       omega arith,
       omega arith,
       c.loop-index.invariant.2,
-      λ next. c.loop-index.invariant.3 next ∙ passed 1 _ _ (consistency_length _) c.loop-index.index _ values c.loop-index.invariant.2 (omega arith) c.is_zero.ensures c.if-not-is_zero.false-raw,
+      λ next. c.loop-index.invariant.3 next ∙ passed 1 _ _ (consistency_length _) c.loop-index.index _ values c.loop-index.invariant.2 (omega arith) c.is_zero.ensures (search rules),
     )
 
 pub rows-preserved : goal.rows-preserved
@@ -56,4 +51,4 @@ returns-then-row-rows c = λ next. sym (c.rows.invariant.1 next ∙ rows_done _ 
 pub returns-then-not-is_zero : goal.returns-then-not-is_zero
 returns-then-not-is_zero c =
     let values = c.consistency_constraints-values.result in
-    λ next. sym (c.loop-index.invariant.3 next ∙ found 1 _ _ (consistency_length _) c.loop-index.index _ values c.loop-index.invariant.2 (omega arith) c.is_zero.ensures c.if-not-is_zero.true-raw)
+    λ next. sym (c.loop-index.invariant.3 next ∙ found 1 _ _ (consistency_length _) c.loop-index.index _ values c.loop-index.invariant.2 (omega arith) c.is_zero.ensures (search rules))

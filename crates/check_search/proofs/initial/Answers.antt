@@ -1,9 +1,8 @@
 -- `check_search::initial` meets its contract: the one value of row 0 decides. Assumes nothing.
-use mathlib.Core.Path.{◌≡◌, refl, sym, ap, ◌∙◌}
-use mathlib.Core.List.{map}
+use borrow.Author.Rules.{rules}
+use mathlib.Core.Path.{sym, ◌∙◌}
 use native.Mathlib.Omega.{arith}
 use lib.Dec.{lit<}
-use Rattle.xfield.specs.XFieldElements.{ext_of}
 use Rattle.air.specs.Constraints.{initial_constraints}
 use Rattle.air.specs.Check.{initial_at}
 use Rattle.air.proofs.Lists.{initial_length}
@@ -21,7 +20,7 @@ returns-then-not-is_zero c =
     let e = c.initial_constraints-values.ensures ∙ (λ i. initial_constraints (weights i) (row i) (sum i)) in
     λ next. sym
     (one_row _ 0 0 next
-    ∙ found 0 0 _ (initial_length _ _ _) 0 next c.initial_constraints-values.result e (lit< tt) c.is_zero.ensures c.if-not-is_zero.true-raw)
+    ∙ found 0 0 _ (initial_length _ _ _) 0 next c.initial_constraints-values.result e (lit< tt) c.is_zero.ensures (search rules))
 
 pub returns : goal.returns
 returns c =
@@ -32,5 +31,5 @@ returns c =
     let vs = initial_at c.args.table.now c.args.aux.now c.args.challenges.now 0 in
     λ next. sym
     (one_row _ 0 0 next
-    ∙ passed 0 0 vs (initial_length _ _ _) 0 next c.initial_constraints-values.result e (lit< tt) c.is_zero.ensures c.if-not-is_zero.false-raw
+    ∙ passed 0 0 vs (initial_length _ _ _) 0 next c.initial_constraints-values.result e (lit< tt) c.is_zero.ensures (search rules)
     ∙ all_passed 0 0 vs (initial_length _ _ _) 1 next (omega arith))

@@ -1,14 +1,9 @@
 -- `check_search::terminal` meets its contract. The invariant: the whole search is the search from this value of the last row on,
 -- whatever follows it. The measure is the values that are left. Assumes nothing.
-use Prim.Native.Nat.{ℕ, ◌+◌, ◌-◌, ◌≤◌, ◌<◌}
-use mathlib.Core.Path.{◌≡◌, refl, sym, ap, ◌∙◌}
-use mathlib.Core.List.{map}
+use borrow.Author.Rules.{rules}
+use mathlib.Core.Path.{sym, ap, ◌∙◌}
 use native.Mathlib.Omega.{arith}
-use lib.ListN.{length, drop}
-use Rattle.words.specs.Answers.{Answer}
-use Rattle.xfield.specs.XFieldElements.{ext_of}
 use Rattle.air.specs.Constraints.{terminal_constraints}
-use Rattle.air.specs.Check.{terminal_at, first_in, first_in_rows}
 use Rattle.air.proofs.Lists.{terminal_length}
 use Rattle.check_search.proofs.Steps.{one_row, all_passed, passed, found}
 use Rattle.check_search.proofs.terminal.Goals as goal
@@ -23,7 +18,7 @@ indices-preserved c =
       omega arith,
       c.indices.invariant.1,
       λ next. c.indices.invariant.2 next
-          ∙ passed 3 _ _ (terminal_length _) c.indices.index _ values c.indices.invariant.1 (omega arith) c.is_zero.ensures c.if-not-is_zero.false-raw,
+          ∙ passed 3 _ _ (terminal_length _) c.indices.index _ values c.indices.invariant.1 (omega arith) c.is_zero.ensures (search rules),
     )
 
 pub returns-then-index-eq-TERMINAL_COUNT : goal.returns-then-index-eq-TERMINAL_COUNT
@@ -35,4 +30,4 @@ returns-then-not-is_zero c =
     let values = c.terminal_constraints-values.result in
     λ next. sym
     (c.indices.invariant.2 next
-    ∙ found 3 _ _ (terminal_length _) c.indices.index _ values c.indices.invariant.1 (omega arith) c.is_zero.ensures c.if-not-is_zero.true-raw)
+    ∙ found 3 _ _ (terminal_length _) c.indices.index _ values c.indices.invariant.1 (omega arith) c.is_zero.ensures (search rules))

@@ -1,15 +1,11 @@
 -- What the loop of `terminal` keeps, and what falls with each turn.
-use Prim.Native.Nat.{ℕ, ◌+◌, ◌-◌, ◌≤◌, ◌<◌}
-use mathlib.Core.Path.{◌≡◌, refl, sym, ap, ◌∙◌}
+use Prim.Native.Nat.{◌-◌, ◌≤◌}
+use mathlib.Core.Path.{◌≡◌}
 use mathlib.Core.List.{map}
-use native.Mathlib.Omega.{arith}
-use lib.ListN.{length, drop}
+use lib.ListN.{drop}
 use Rattle.words.specs.Answers.{Answer}
 use Rattle.xfield.specs.XFieldElements.{ext_of}
-use Rattle.air.specs.Constraints.{terminal_constraints}
 use Rattle.air.specs.Check.{terminal_at, first_in, first_in_rows}
-use Rattle.air.proofs.Lists.{terminal_length}
-use Rattle.check_search.proofs.Steps.{one_row, all_passed, passed, found}
 use Rattle.check_search.proofs.terminal.Given as goal
 
 abbrev pub invariant-indices : goal.invariant-indices

@@ -1,17 +1,13 @@
 -- `check_search::transition` meets its contract. The invariants: the whole search is the search from this pair, or from this value of
 -- this pair, on, whatever follows it. The measures are the pairs and the values that are left. Assumes nothing.
-use Prim.Native.Nat.{ℕ, ◌+◌, ◌-◌, ◌≤◌, ◌<◌}
-use mathlib.Core.Path.{◌≡◌, refl, sym, ◌∙◌, subst}
-use mathlib.Core.List.{map}
+use borrow.Author.Rules.{rules}
+use mathlib.Core.Path.{sym, ◌∙◌, subst}
 use native.Mathlib.Nat.{sub-zero}
 use native.Mathlib.Omega.{arith}
-use lib.ListN.{length, drop}
-use Rattle.words.specs.Answers.{Answer}
-use Rattle.xfield.specs.XFieldElements.{ext_of}
 use Rattle.air.specs.Constraints.{transition_constraints}
 use Rattle.xfield.specs.Extension.{Ext}
 use mathlib.Core.List.{List}
-use Rattle.air.specs.Check.{AllZero, transition_at, first_in, first_in_rows}
+use Rattle.air.specs.Check.{AllZero}
 use Rattle.air.proofs.Lists.{transition_length}
 use Rattle.air.proofs.Scan.{row_next, rows_done, values_zero}
 use Rattle.check_search.proofs.Steps.{all_passed, passed, found}
@@ -69,7 +65,7 @@ loop-index-preserved c =
       omega arith,
       c.loop-index.invariant.2,
       λ next. c.loop-index.invariant.3 next
-          ∙ passed 2 _ _ (transition_length _ _ _ _ _) c.loop-index.index _ values c.loop-index.invariant.2 (omega arith) c.is_zero.ensures c.if-not-is_zero.false-raw,
+          ∙ passed 2 _ _ (transition_length _ _ _ _ _) c.loop-index.index _ values c.loop-index.invariant.2 (omega arith) c.is_zero.ensures (search rules),
     )
 
 pub overflow_add-upper-in-pairs-2 : goal.overflow_add-upper-in-pairs-2
@@ -87,4 +83,4 @@ returns-then-not-is_zero c =
     let values = c.transition_constraints-values.result in
     λ next. sym
     (c.loop-index.invariant.3 next
-    ∙ found 2 _ _ (transition_length _ _ _ _ _) c.loop-index.index _ values c.loop-index.invariant.2 (omega arith) c.is_zero.ensures c.if-not-is_zero.true-raw)
+    ∙ found 2 _ _ (transition_length _ _ _ _ _) c.loop-index.index _ values c.loop-index.invariant.2 (omega arith) c.is_zero.ensures (search rules))

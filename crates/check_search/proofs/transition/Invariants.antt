@@ -1,19 +1,11 @@
 -- What the loops of `transition` keep, and what falls with each turn.
-use Prim.Native.Nat.{ℕ, ◌+◌, ◌-◌, ◌≤◌, ◌<◌}
-use mathlib.Core.Path.{◌≡◌, refl, sym, ◌∙◌, subst}
+use Prim.Native.Nat.{◌+◌, ◌-◌, ◌≤◌, ◌<◌}
+use mathlib.Core.Path.{◌≡◌}
 use mathlib.Core.List.{map}
-use native.Mathlib.Nat.{sub-zero}
-use native.Mathlib.Omega.{arith}
-use lib.ListN.{length, drop}
+use lib.ListN.{drop}
 use Rattle.words.specs.Answers.{Answer}
 use Rattle.xfield.specs.XFieldElements.{ext_of}
-use Rattle.air.specs.Constraints.{transition_constraints}
-use Rattle.xfield.specs.Extension.{Ext}
-use mathlib.Core.List.{List}
-use Rattle.air.specs.Check.{AllZero, transition_at, first_in, first_in_rows}
-use Rattle.air.proofs.Lists.{transition_length}
-use Rattle.air.proofs.Scan.{row_next, rows_done, values_zero}
-use Rattle.check_search.proofs.Steps.{all_passed, passed, found}
+use Rattle.air.specs.Check.{transition_at, first_in, first_in_rows}
 use Rattle.check_search.proofs.transition.Given as goal
 
 abbrev pub invariant-loop-index : goal.invariant-loop-index
