@@ -1,6 +1,6 @@
 -- The reasons against a client's sum in their order, 1, 8, then 2, 3, 4, 9 request by request: what each answer of the tests makes of
 -- `client_reason` and `client_all`; and that the answer is 9 exactly where a denominator is zero, of a request that is admitted, with nothing
--- against those before it. The first reason of a walk is found at one request, with nothing before it (first-place). Assumes nothing.
+-- against those before it. The first reason of a walk is found at one request, with nothing before it (first_place). Assumes nothing.
 use Prim.Native.Nat.{ℕ, zero, suc, ◌+◌, ◌<◌, ◌%◌}
 use mathlib.Core.Path.{◌≡◌, refl, sym, ap, ◌∙◌}
 use mathlib.Core.Logic.{◌≢◌}

@@ -1,6 +1,6 @@
--- The client's sum, request by request: each adds the inverse of its denominator to the sum of those before it (client-adds), and with no
--- request it is zero (client-none). The sum is a running sum of summands with flag and multiplicity 1, and such a summand adds one inverse
--- (adds-inverse); the requests before the last are read alike with and without it. Assumes nothing.
+-- The client's sum, request by request: each adds the inverse of its denominator to the sum of those before it (client_adds), and with no
+-- request it is zero (client_none). The sum is a running sum of summands with flag and multiplicity 1, and such a summand adds one inverse
+-- (adds_inverse); the requests before the last are read alike with and without it. Assumes nothing.
 use Prim.Native.Nat.{ℕ, suc, ◌+◌, ◌*◌, ◌%◌, ◌<◌}
 use mathlib.Core.Path.{◌≡◌, refl, sym, ap, ◌∙◌}
 use mathlib.Core.List.{List, [], ◌++◌}

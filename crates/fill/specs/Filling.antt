@@ -17,7 +17,7 @@ use Rattle.fill.specs.declared.Filled.{Filled}
 use Rattle.fill.specs.declared.Filled.TheVariants.{Rows, Refused}
 
 -- "Sections follow list order", joined: the rows of the sections of these places. Every entry of a list that is judged fine has a section
--- (proofs/ListSections.antt: section-at), so as many rows as the height says (rows-height)
+-- (proofs/ListSections.antt: section_at_lem), so as many rows as the height says (rows_height)
 unfoldable pub sections_at : U32List → List ℕ → List Row
 sections_at l [] = []
 sections_at l (i ∷ is) = rows_of (section (entry_at l i) (multiplicity_at l i)) ++ sections_at l is

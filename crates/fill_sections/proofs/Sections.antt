@@ -1,10 +1,10 @@
 -- Sections (document 01, "Filling"): how many rows a section has, and which of them ends it.
---   end-height, next-height: an end row's entry has height 1, every other one more than the entry of the row below.
---   section-fuel: rows enough is enough; more fuel than the height changes nothing, for any opcode.
---   section-unknown: no number but the six opcodes has a section.
---   section-rows: an admitted entry's section has as many rows as its height says; the last row is an end row and no earlier one is.
+--   end_height, next_height: an end row's entry has height 1, every other one more than the entry of the row below.
+--   section_fuel: rows enough is enough; more fuel than the height changes nothing, for any opcode.
+--   section_unknown: no number but the six opcodes has a section.
+--   section_rows: an admitted entry's section has as many rows as its height says; the last row is an end row and no earlier one is.
 -- Each goes down the rows; the height falls by one a row. Assumes nothing.
-use Prim.Native.Nat.{ℕ, zero, suc, ◌+◌, ◌/◌, ◌≤◌}
+use Prim.Native.Nat.{ℕ, zero, suc, ◌/◌, ◌≤◌}
 use mathlib.Core.Path.{◌≡◌, refl, sym, ap, ◌∙◌}
 use mathlib.Core.Bool.{Bool, true, false, cond, ◌&&◌, ◌||◌}
 use mathlib.Core.List.{List, [], ◌∷◌}
@@ -15,7 +15,7 @@ use lib.ListN.{length}
 use borrow.Author.Tests.{eqb-true, eqb-false}
 use Rattle.isa.specs.Opcodes.{op_pow, is_opcode}
 use Rattle.isa.specs.declared.U32TableEntry.{U32TableEntry}
-use Rattle.isa.specs.Entries.{lhs, rhs, entry, dominant, height}
+use Rattle.isa.specs.Entries.{entry, dominant, height}
 use Rattle.isa.proofs.Entries.{Admissible, height_bound}
 use Rattle.isa.proofs.Entries.{dominant_end, end_dominant, dominant_half_pow, dominant_half, height_end, height_next, height_at_least}
 use Rattle.table.specs.Columns.{Row}

@@ -1,5 +1,5 @@
--- What a search for a value finds. find-hit, find-miss and find_none are its steps, for a loop that goes from place i to n; find-run passes a run
--- of places that hold other keys. find-within: it ends at the last place at the latest. Assumes nothing.
+-- What a search for a value finds. find_hit, find_miss and find_none are its steps, for a loop that goes from place i to n; find_run passes a run
+-- of places that hold other keys. find_within: it ends at the last place at the latest. Assumes nothing.
 use Prim.Native.Nat.{ℕ, zero, suc, ◌+◌, ◌-◌, ◌≤◌, ◌<◌}
 use mathlib.Core.Path.{◌≡◌, refl, sym, ap, ◌∙◌, subst}
 use mathlib.Core.Bool.{Bool, true, false}

@@ -1,6 +1,6 @@
 -- A recording of a 16-bit value in its two parts. `place_of` in each of its cases: declined for the shape, for a multiplicity that would pass the
--- limit, for want of a place; a known value; a new one. What is found there fits (place-fits), and storing at it is the recording
--- (looked-up-at). The test of a new value's bytes, by cases: they are equal and gain two, or differ and gain one each. Assumes nothing.
+-- limit, for want of a place; a known value; a new one. What is found there fits (place_fits), and storing at it is the recording
+-- (looked_up_at). The test of a new value's bytes, by cases: they are equal and gain two, or differ and gain one each. Assumes nothing.
 use Prim.Native.Nat.{ℕ, ◌+◌, ◌≤◌, ◌<◌}
 use mathlib.Core.Path.{◌≡◌, refl, sym, ap, ◌∙◌}
 use mathlib.Core.Bool.{Bool, true, false, cond, not, ◌||◌, and-eq-true_iff, true≢false}

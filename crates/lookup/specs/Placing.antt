@@ -1,5 +1,5 @@
 -- A recording in two parts: where a value goes, and storing it there. No contract of a call cites this page; proofs/LookupCases.antt:
--- looked-up-at says that the two parts are a recording.
+-- looked_up_at says that the two parts are a recording.
 use Rattle.std.specs.Prelude.{ℕ, ◌+◌, ◌<◌, ◌≡◌, false, cond, [], length, get_or}
 use Rattle.words.specs.Limits.{byte_rows}
 use Rattle.words.specs.Answers.{done, declined}

@@ -1,6 +1,6 @@
 -- The reasons against a sum over a lookup table in their order, 1, 8, 9: what each test makes of the answer and of the aux words; that the sum over the
--- bytes is that over the cascade's places that hold 0, 1, .., 255 (bytes-summed); and that the answer is 9 exactly where some denominator is zero and
--- 1 and 8 are not met (byte-flat-exactly, cascade-flat-exactly). Assumes nothing.
+-- bytes is that over the cascade's places that hold 0, 1, .., 255 (bytes_summed); and that the answer is 9 exactly where some denominator is zero and
+-- 1 and 8 are not met (byte_flat_exactly, cascade_flat_exactly). Assumes nothing.
 use Prim.Native.Nat.{ℕ, ◌+◌, ◌*◌, ◌<◌}
 use mathlib.Core.Path.{◌≡◌, refl, sym, ap, ap₂, ◌∙◌}
 use mathlib.Core.Logic.{◌↔◌}

@@ -1,5 +1,5 @@
 -- `extend::add_row` meets its contract: the two cases of the definition. Assumes nothing.
-use mathlib.Core.Path.{refl, ap, ◌∙◌}
+use mathlib.Core.Path.{ap, ◌∙◌}
 use borrow.Author.Tests.{eq-eqb, ne_eqb}
 use Rattle.xfield.specs.Extension.{add_x, scale_x}
 use Rattle.xfield.specs.XFieldElements.{ext_of}
@@ -8,7 +8,6 @@ use Rattle.table.specs.Columns.{row_at}
 use Rattle.table.specs.Challenges.{row_denominator}
 use Rattle.sums.specs.RunningSum.{add_summand}
 use Rattle.table.specs.Layouts.{row_of, challenges_in}
-use borrow.Author.Rules.{rules}
 use Rattle.extend.proofs.add_row.Goals as goal
 
 pub returns-then-table-i-eq1 : goal.returns-then-table-i-eq1

@@ -1,14 +1,10 @@
 -- `extend::are_rows_fine` meets its contract. The loop's invariant: the words of the rows passed are below p, and nothing is against their
 -- denominators. At the end all rows have been passed, and there are no words after them. Assumes nothing.
-use Prim.Native.Nat.{ℕ, ◌*◌, ◌-◌, ◌≤◌, ◌<◌}
 use mathlib.Core.Path.{◌≡◌, refl, sym, ap, ◌∙◌}
-use mathlib.Core.Bool.{true, false≢true}
+use mathlib.Core.Bool.{false≢true}
 use native.Mathlib.Omega.{arith}
 use borrow.Author.Rules.{rules}
-use borrow.Author.Tests.{not-false}
-use lib.ListN.{get_or}
-use Rattle.field.specs.Elements.{p}
-use Rattle.table.specs.Columns.{main_width, row_count}
+use Rattle.table.specs.Columns.{row_count}
 use Rattle.sums.specs.RunningSum.{denominator_ok, denominators_ok}
 use Rattle.sums.specs.LookupSum.{summand_at}
 use Rattle.table.proofs.Rows.{all_reduced_lem}

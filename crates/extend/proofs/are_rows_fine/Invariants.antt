@@ -1,19 +1,12 @@
 -- What the loop of `are_rows_fine` keeps, and what falls with each turn.
 use Prim.Native.Nat.{ℕ, ◌*◌, ◌-◌, ◌≤◌, ◌<◌}
-use mathlib.Core.Path.{◌≡◌, refl, sym, ap, ◌∙◌}
-use mathlib.Core.Bool.{true, false≢true}
-use native.Mathlib.Omega.{arith}
-use borrow.Author.Rules.{rules}
-use borrow.Author.Tests.{not-false}
+use mathlib.Core.Path.{◌≡◌}
+use mathlib.Core.Bool.{true}
 use lib.ListN.{get_or}
 use Rattle.field.specs.Elements.{p}
-use Rattle.table.specs.Columns.{main_width, row_count}
-use Rattle.sums.specs.RunningSum.{denominator_ok, denominators_ok}
+use Rattle.table.specs.Columns.{main_width}
+use Rattle.sums.specs.RunningSum.{denominators_ok}
 use Rattle.sums.specs.LookupSum.{summand_at}
-use Rattle.table.proofs.Rows.{all_reduced_lem}
-use Rattle.sums.proofs.ZeroDenominators.{denominators_more}
-use Rattle.table.proofs.Tens.{ten_more}
-use Rattle.sums.proofs.LookupSums.{row_summand}
 use Rattle.extend.proofs.are_rows_fine.Given as goal
 
 abbrev pub invariant-loop-row : goal.invariant-loop-row

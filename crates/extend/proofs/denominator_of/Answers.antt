@@ -1,5 +1,4 @@
 -- `extend::denominator_of` meets its contract: the row's words go where the definition has them. Assumes nothing.
-use borrow.Author.Rules.{rules}
 use Rattle.table.specs.Layouts.{row_of}
 use Rattle.extend.proofs.denominator_of.Goals as goal
 

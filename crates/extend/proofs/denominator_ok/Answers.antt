@@ -1,5 +1,5 @@
 -- `extend::denominator_ok` meets its contract: the two cases of the definition. Assumes nothing.
-use mathlib.Core.Path.{◌≡◌, refl, sym, ap, ◌∙◌}
+use mathlib.Core.Path.{ap, ◌∙◌}
 use mathlib.Core.Bool.{not}
 use borrow.Author.Tests.{eq-eqb, ne_eqb}
 use Rattle.xfield.specs.Extension.{is_zero_x}
@@ -7,7 +7,6 @@ use Rattle.table.specs.Columns.{row_at}
 use Rattle.table.specs.Challenges.{row_denominator}
 use Rattle.table.specs.Layouts.{challenges_in}
 use Rattle.sums.specs.RunningSum.{denominator_ok}
-use borrow.Author.Rules.{rules}
 use Rattle.extend.proofs.denominator_ok.Goals as goal
 
 pub returns-then-table-i-ne1 : goal.returns-then-table-i-ne1

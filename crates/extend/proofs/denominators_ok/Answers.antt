@@ -1,11 +1,8 @@
 -- `extend::denominators_ok` meets its contract. The loop's invariant: nothing is against the rows passed. A row that is not ok decides the
 -- answer, and at the end all rows have been passed. Assumes nothing.
-use Prim.Native.Nat.{◌-◌, ◌≤◌}
 use mathlib.Core.Path.{◌≡◌, refl, sym, ap, ◌∙◌}
-use mathlib.Core.Bool.{true}
 use native.Mathlib.Omega.{arith}
 use borrow.Author.Rules.{rules}
-use borrow.Author.Tests.{not-true, not-false}
 use Rattle.table.specs.Columns.{row_count}
 use Rattle.sums.specs.RunningSum.{denominator_ok, denominators_ok}
 use Rattle.sums.specs.LookupSum.{summand_at}

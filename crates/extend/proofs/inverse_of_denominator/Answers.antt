@@ -1,6 +1,5 @@
 -- `extend::inverse_of_denominator` meets its contract: what is inverse-or-zero of the denominator is `inv_x` of it. Assumes nothing.
 use mathlib.Core.Path.{ap, ◌∙◌}
-use borrow.Author.Rules.{rules}
 use Rattle.xfield.specs.Inverses.{inv_x}
 use Rattle.xfield.proofs.Inverses.{inv_x_only}
 use Rattle.extend.proofs.inverse_of_denominator.Goals as goal

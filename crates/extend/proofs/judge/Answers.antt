@@ -3,7 +3,6 @@
 use mathlib.Core.Path.{sym, ◌∙◌}
 use mathlib.Core.Bool.{and-eq-true_iff}
 use borrow.Author.Rules.{rules}
-use borrow.Author.Tests.{not-true, not-false}
 use Rattle.table.proofs.Rows.{shaped}
 use Rattle.extend.proofs.Reasons.{no_shape, unreduced, flat, fine}
 use Rattle.extend.proofs.judge.Goals as goal

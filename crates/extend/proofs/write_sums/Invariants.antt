@@ -1,18 +1,12 @@
 -- What the loop of `write_sums` keeps, and what falls with each turn.
 use Prim.Native.Nat.{◌-◌, ◌≤◌}
-use mathlib.Core.Path.{◌≡◌, refl, ap, ◌∙◌}
-use native.Mathlib.Omega.{arith}
-use borrow.Author.Rules.{rules}
+use mathlib.Core.Path.{◌≡◌}
 use lib.ListN.{length}
 use lib.Seq.{sets}
 use Rattle.xfield.specs.XFieldElements.{ext_of}
-use Rattle.table.specs.Columns.{row_count}
-use Rattle.sums.specs.RunningSum.{add_summand, running_sum}
-use Rattle.sums.specs.LookupSum.{summand_at, lookup_sum}
+use Rattle.sums.specs.RunningSum.{running_sum}
+use Rattle.sums.specs.LookupSum.{summand_at}
 use Rattle.sums.specs.RunningSum.{sum_words}
-use Rattle.sums.proofs.LookupSums.{row_summand}
-use Rattle.sums.proofs.RunningSums.{sum_turn}
-use Rattle.sums.proofs.SumWords.{words_turn, all_words}
 use Rattle.extend.proofs.write_sums.Given as goal
 
 abbrev pub invariant-loop-written : goal.invariant-loop-written

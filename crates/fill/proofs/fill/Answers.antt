@@ -4,8 +4,6 @@ use native.Mathlib.Omega.{arith}
 use Rattle.list.specs.Holds.{section_list}
 use Rattle.list.proofs.HeldLists.{held_shaped, held_told, held_height, held_refused, held_judged}
 use Rattle.fill.proofs.Fillings.{fill_shape, fill_list, fill_short, fill_done}
-use borrow.Author.Rules.{rules}
-use borrow.Author.Tests.{not-true, not-false}
 use Rattle.fill.proofs.fill.Goals as goal
 
 pub returns-then-not-has_shape : goal.returns-then-not-has_shape

@@ -1,4 +1,4 @@
--- `fill::fill_counted` meets its contract: the parts of the two arrays that are lent on are the list of the counted places (counted-lent), so what
+-- `fill::fill_counted` meets its contract: the parts of the two arrays that are lent on are the list of the counted places (counted_lent), so what
 -- `fill_sections` asks and says of that list is what is asked and said of the counted places. Assumes nothing.
 use mathlib.Core.Path.{refl, ap, ◌∙◌}
 use native.Mathlib.Omega.{arith}

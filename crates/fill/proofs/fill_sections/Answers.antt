@@ -1,11 +1,10 @@
 -- `fill::fill_sections` meets its contract. The invariant: `row` is the height of the places before `place`, and the table is the old one
 -- with the rows of their sections put in from row 0 on. Since the list is judged fine, neither refusal is reached. Assumes nothing.
-use Prim.Native.Nat.{ℕ, ◌+◌, ◌*◌, ◌-◌, ◌≤◌, ◌<◌}
+use Prim.Native.Nat.{ℕ, ◌+◌, ◌*◌, ◌≤◌, ◌<◌}
 use mathlib.Core.Path.{◌≡◌, refl, sym, ap, ◌∙◌}
 use mathlib.Core.List.{List}
 use native.Mathlib.Numerals.{add-one}
 use native.Mathlib.Omega.{arith}
-use lib.ListN.{length}
 use lib.Seq.{sets}
 use borrow.Author.Rules.{rules}
 use Rattle.words.specs.declared.Judgement.TheVariants.{Fine}

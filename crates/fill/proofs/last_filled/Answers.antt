@@ -1,5 +1,4 @@
 -- `fill::last_filled` meets its contract: row filled − 1, or none. Assumes nothing.
-use borrow.Author.Rules.{rules}
 use Rattle.table.specs.Layouts.{row_of}
 use Rattle.fill.proofs.Paddings.{none_filled, last_row}
 use Rattle.fill.proofs.last_filled.Goals as goal

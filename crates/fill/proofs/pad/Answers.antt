@@ -1,17 +1,14 @@
 -- `fill::pad` meets its contract. The invariant: the table is the old one with the padding row put in from `filled` to `row`.
 -- Assumes nothing.
-use Prim.Native.Nat.{ℕ, ◌*◌, ◌-◌, ◌≤◌}
+use Prim.Native.Nat.{ℕ}
 use mathlib.Core.Bool.{Bool}
 use mathlib.Core.Path.{◌≡◌, refl, sym, ap, ◌∙◌}
 use mathlib.Core.List.{List}
 use native.Mathlib.Omega.{arith}
-use lib.ListN.{length, replicate}
-use lib.Seq.{sets}
 use borrow.Author.Rules.{rules}
-use borrow.Author.Tests.{not-true, not-false}
-use Rattle.table.specs.Columns.{Row, main_width, row_count, all_reduced}
+use Rattle.table.specs.Columns.{Row, row_count, all_reduced}
 use Rattle.table.specs.Layouts.{row_of}
-use Rattle.table.specs.RowWords.{row_words, table_words}
+use Rattle.table.specs.RowWords.{row_words}
 use Rattle.fill.specs.Padding.{last_filled, padding_row}
 use Rattle.fill.proofs.Paddings.{pad_start, pad_turn, pad_shape, pad_short, pad_unreduced, pad_done}
 use Rattle.fill.proofs.pad.Goals as goal

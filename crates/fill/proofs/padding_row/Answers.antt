@@ -1,7 +1,6 @@
 -- `fill::padding_row` meets its contract. Assumes nothing.
 use mathlib.Core.Path.{◌∙◌}
 use borrow.Author.Tests.{eq-eqb, ne_eqb}
-use borrow.Author.Rules.{rules}
 use Rattle.table.specs.Layouts.{row_of}
 use Rattle.fill.proofs.Paddings.{padding_row_lem}
 use Rattle.fill.proofs.padding_row.Goals as goal

@@ -1,10 +1,8 @@
 -- `fill_sections::fill_section` meets its contract; it is a cycle of calls by itself. The measure is the number of rows that are left, which is the
 -- bit length of the dominant operand and one more. Each way out is a lemma of proofs/PendingRows.antt. Assumes nothing.
-use Prim.Native.Nat.{ℕ, ◌<◌}
-use mathlib.Core.Path.{sym, ap, ◌∙◌}
+use mathlib.Core.Path.{sym, ap}
 use native.Mathlib.Omega.{arith}
 use Rattle.fill_sections.specs.Sections.{Pending}
-use Rattle.fill_sections.specs.PendingRows.{rows_left}
 use Rattle.fill_sections.proofs.PendingRows.{left_at_least, left_below, both_clauses, end_filled, unknown_filled, row_filled}
 use Rattle.fill_sections.proofs.+fill_section.Goals as goal
 

@@ -3,7 +3,6 @@ use Prim.Native.Nat.{ℕ, ◌*◌, ◌≤◌}
 use mathlib.Core.Path.{◌≡◌, sym, ap, ◌∙◌}
 use native.Mathlib.Omega.{arith}
 use lib.Seq.{sets}
-use borrow.Author.Rules.{rules}
 use Rattle.isa.specs.declared.U32TableEntry.{U32TableEntry}
 use Rattle.isa.specs.Entries.{height}
 use Rattle.table.specs.Columns.{main_width}
@@ -22,17 +21,17 @@ inverse_by_table-requires-2 c = c.requires.e_bound.2
 
 pub fill_section-requires : goal.fill_section-requires
 fill_section-requires c = record {
-      pending_in_bounds = c.requires.e_in_bounds;
-      pending_bound = (
-        omega (arith, c.requires.e_bound.0),
-        record {
-          lhs_inverse = c.inverse_by_table.ensures;
-          rhs_inverse = c.inverse_by_table-2.ensures;
-        },
-        c.requires.e_bound.1,
-        c.requires.e_bound.2,
-      );
-    }
+  pending_in_bounds = c.requires.e_in_bounds;
+  pending_bound = (
+    omega (arith, c.requires.e_bound.0),
+    record {
+      lhs_inverse = c.inverse_by_table.ensures;
+      rhs_inverse = c.inverse_by_table-2.ensures;
+    },
+    c.requires.e_bound.1,
+    c.requires.e_bound.2,
+  );
+}
 
 pub returns : goal.returns
 returns c =

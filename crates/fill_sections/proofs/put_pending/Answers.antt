@@ -6,7 +6,6 @@ use lib.Seq.{sets}
 use Rattle.table.specs.Columns.{Row, main_width}
 use Rattle.table.specs.RowWords.{row_words}
 use Rattle.fill_sections.proofs.PendingRows.{one_row, no_row}
-use borrow.Author.Rules.{rules}
 use Rattle.fill_sections.proofs.put_pending.Goals as goal
 
 pub returns-in-Value : goal.returns-in-Value

@@ -1,5 +1,5 @@
--- `lookup::increase_lookup_multiplicities_for_limb_by_value` meets its contract: what is found has room (place-fits), and storing there is the
--- recording (looked-up-at). Assumes nothing.
+-- `lookup::increase_lookup_multiplicities_for_limb_by_value` meets its contract: what is found has room (place_fits), and storing there is the
+-- recording (looked_up_at). Assumes nothing.
 use Prim.Native.Nat.{ℕ}
 use mathlib.Core.Path.{◌≡◌}
 use Rattle.words.specs.Answers.{Answer}

@@ -1,4 +1,4 @@
--- `lookup_sums::denominator_of` meets its contract: the lent table makes the cascade's output (both-looked-up); input
+-- `lookup_sums::denominator_of` meets its contract: the lent table makes the cascade's output (both_looked_up); input
 -- and output go where the definition has them. Assumes nothing.
 use Prim.Native.Nat.{ℕ}
 use mathlib.Core.Path.{◌≡◌, ap₂, ◌∙◌}

@@ -1,6 +1,5 @@
 -- `fill_sections::PendingRow::next` meets its contract. Assumes nothing.
 use borrow.Author.Tests.{eq-eqb, ne_eqb}
-use borrow.Author.Rules.{rules}
 use Rattle.fill_sections.proofs.PendingRow.next.Goals as goal
 
 pub inverse_of_half-requires : goal.inverse_of_half-requires

@@ -1,7 +1,6 @@
 -- `fill_sections::PendingRow::row` meets its contract: the lent inverses are those of the definition. Assumes nothing.
 use Rattle.table.specs.Layouts.{row_of}
 use Rattle.fill_sections.proofs.PendingRows.{lent_inverse}
-use borrow.Author.Rules.{rules}
 use Rattle.fill_sections.proofs.PendingRow.row.Goals as goal
 
 pub returns : goal.returns
