@@ -44,9 +44,9 @@ returns-then-group-eq4 c = let all =
 
 pub returns-in-Nonzero : goal.returns-in-Nonzero
 returns-in-Nonzero c =
-    let found = c.found-1.given in let all =
-    clauses _ _ _ (Nonzero found.0.0 found.0.1.0 found.0.1.1.0 found.0.1.1.1.0)
-    (sym (c.groups.invariant.1 ∙ group_found _ _ _ c.groups.group (omega arith) c.search_group-found.ensures found.1)) in record {
+    let all =
+    clauses _ _ _ (Nonzero c.in-Nonzero.group c.in-Nonzero.row c.in-Nonzero.index c.in-Nonzero.value)
+    (sym (c.groups.invariant.1 ∙ group_found _ _ _ c.groups.group (omega arith) c.search_group-found.ensures c.in-Nonzero.is)) in record {
       exact = all.0;
       zero_iff = all.1.0;
       sound = all.1.1.0;

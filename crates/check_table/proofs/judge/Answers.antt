@@ -51,25 +51,25 @@ module _ (table aux challenges : List ℕ) where
   both_words r a = rw r a
 
 pub returns-then-not-have_shapes : goal.returns-then-not-have_shapes
-returns-then-not-have_shapes c = no_shape _ _ _ (sym c.have_shapes.ensures ∙ not-true _ c.if-not-have_shapes.true-raw)
+returns-then-not-have_shapes c = no_shape _ _ _ (sym c.have_shapes.ensures ∙ not-true c.have_shapes.result (search rules))
 
 pub returns-then-table-eq0 : goal.returns-then-table-eq0
 returns-then-table-eq0 c =
-    no_rows _ _ _ (sym c.have_shapes.ensures ∙ not-false _ c.if-not-have_shapes.false-raw) (eq-eqb _ 0 c.if-table-eq0.true)
+    no_rows _ _ _ (sym c.have_shapes.ensures ∙ not-false c.have_shapes.result (search rules)) (eq-eqb _ 0 c.if-table-eq0.true)
 
 pub returns-then-not-are_reduced : goal.returns-then-not-are_reduced
 returns-then-not-are_reduced c =
-    unreduced _ _ _ (sym c.have_shapes.ensures ∙ not-false _ c.if-not-have_shapes.false-raw) (ne_eqb _ 0 c.if-table-eq0.false)
-    (table_unreduced _ _ _ (sym c.are_reduced.ensures ∙ not-true _ c.if-not-are_reduced.true-raw))
+    unreduced _ _ _ (sym c.have_shapes.ensures ∙ not-false c.have_shapes.result (search rules)) (ne_eqb _ 0 c.if-table-eq0.false)
+    (table_unreduced _ _ _ (sym c.are_reduced.ensures ∙ not-true c.are_reduced.result (search rules)))
 
 pub returns-then-not-all_reduced : goal.returns-then-not-all_reduced
 returns-then-not-all_reduced c =
-    unreduced _ _ _ (sym c.have_shapes.ensures ∙ not-false _ c.if-not-have_shapes.false-raw) (ne_eqb _ 0 c.if-table-eq0.false)
-    (both_words _ _ _ (sym c.are_reduced.ensures ∙ not-false _ c.if-not-are_reduced.false-raw)
-    (sym c.all_reduced.ensures ∙ not-true _ c.if-not-all_reduced.true-raw))
+    unreduced _ _ _ (sym c.have_shapes.ensures ∙ not-false c.have_shapes.result (search rules)) (ne_eqb _ 0 c.if-table-eq0.false)
+    (both_words _ _ _ (sym c.are_reduced.ensures ∙ not-false c.are_reduced.result (search rules))
+    (sym c.all_reduced.ensures ∙ not-true c.all_reduced.result (search rules)))
 
 pub returns : goal.returns
 returns c =
-    fine _ _ _ (sym c.have_shapes.ensures ∙ not-false _ c.if-not-have_shapes.false-raw) (ne_eqb _ 0 c.if-table-eq0.false)
-    (both_words _ _ _ (sym c.are_reduced.ensures ∙ not-false _ c.if-not-are_reduced.false-raw)
-    (sym c.all_reduced.ensures ∙ not-false _ c.if-not-all_reduced.false-raw))
+    fine _ _ _ (sym c.have_shapes.ensures ∙ not-false c.have_shapes.result (search rules)) (ne_eqb _ 0 c.if-table-eq0.false)
+    (both_words _ _ _ (sym c.are_reduced.ensures ∙ not-false c.are_reduced.result (search rules))
+    (sym c.all_reduced.ensures ∙ not-false c.all_reduced.result (search rules)))

@@ -23,6 +23,5 @@ returns-in-2 c = λ next. c.transition.ensures next ∙ transition_group _ _ _ _
 
 pub returns-in_default : goal.returns-in_default
 returns-in_default c =
-    let three : c.args.group ≡ 3 =
-    omega (arith, c.in_default.rest.1, c.in_default.rest.0.1, c.in_default.rest.0.0.1) in
+    let three : c.args.group ≡ 3 = omega arith in
     λ next. c.terminal.ensures next ∙ terminal_group _ _ _ c.args.group next three c.requires.1.0
