@@ -2,7 +2,7 @@
 -- end; and the tests of lengths. Assumes nothing.
 use Prim.Native.Nat.{ℕ, zero, suc, ◌+◌, ◌*◌, ◌%◌, ◌/◌}
 use mathlib.Core.Path.{◌≡◌, refl, sym, ap, ◌∙◌}
-use mathlib.Core.Bool.{Bool, true, false, ◌&&◌}
+use mathlib.Core.Bool.{true, false}
 use mathlib.Core.List.{List, ◌++◌, append-nil}
 use native.Mathlib.Omega.{arith}
 use native.Mathlib.Numerals.{add-one}
@@ -12,7 +12,7 @@ use borrow.Author.Tests.{eq-eqb, ne_eqb}
 use Rattle.words.proofs.Sets.{sets_then, sets_front}
 use Rattle.xfield.specs.Extension.{Ext}
 use Rattle.table.specs.Columns.{element_at}
-use Rattle.probes.specs.Probes.{words_x, products_fit}
+use Rattle.probes.specs.Probes.{words_x}
 use Rattle.probes.specs.ExtensionProbes.{elements_fit, words_of_first, elementwise}
 use Rattle.probes.proofs.Places.{left_differs, right_differs, products_fit_lem}
 

@@ -6,12 +6,12 @@ use mathlib.Core.Bool.{Bool, true, false, true≢false}
 use mathlib.Core.List.{List, [], ◌∷◌, ◌++◌, map, append_assoc, append-nil}
 use native.Mathlib.Omega.{arith}
 use native.Mathlib.Numerals.{add-one}
-use lib.ListN.{length, get_or, take, drop, length-map, length-append, drop_of_length-le, get_or-map}
+use lib.ListN.{length, get_or, take, length-map, length-append, drop_of_length-le, get_or-map}
 use lib.Seq.{sets, take-suc, take_all, length-take-le}
 use borrow.Author.Count.{below_more}
 use borrow.Author.Tests.{eq-eqb, ne_eqb}
 use Rattle.words.proofs.Sets.{sets_then, sets_front, get_d_sets_below, get_d_sets_in}
-use Rattle.xfield.specs.Extension.{Ext, ext, zero_x, InverseOrZeroX}
+use Rattle.xfield.specs.Extension.{Ext, zero_x, InverseOrZeroX}
 use Rattle.xfield.specs.XFieldElements.{ext_of}
 use Rattle.xfield.specs.declared.XFieldElement.{XFieldElement}
 use Rattle.table.specs.Columns.{Row, row_at, element_at, aux_at}

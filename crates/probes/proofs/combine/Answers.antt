@@ -1,8 +1,6 @@
 -- `probes::combine` meets its contract: each variant's call is the operation that it names. Assumes nothing.
 use mathlib.Core.Path.{◌≡◌, sym, ap, ◌∙◌}
-use borrow.Author.Rules.{rules}
 use Rattle.xfield.specs.Extension.{Ext}
-use Rattle.xfield.specs.XFieldElements.{ext_of}
 use Rattle.probes.specs.Operations.{operation_x}
 use Rattle.probes.specs.declared.Operation.{Operation}
 use Rattle.probes.proofs.combine.Goals as goal

@@ -1,11 +1,9 @@
 -- `probes::combine_all` meets its contract. The loop's invariant: the words of the elements passed stand in front, and no place is lost. Assumes
 -- nothing.
 use borrow.Author.Rules.{rules}
-use Prim.Native.Nat.{ℕ, ◌+◌, ◌*◌, ◌-◌, ◌<◌, ◌≤◌, ◌%◌, ◌/◌}
-use mathlib.Core.Path.{◌≡◌, refl, sym, ap, ◌∙◌}
+use Prim.Native.Nat.{ℕ}
+use mathlib.Core.Path.{refl, ap, ◌∙◌}
 use native.Mathlib.Omega.{arith}
-use lib.ListN.{length}
-use lib.Seq.{sets}
 use Rattle.xfield.specs.Extension.{Ext}
 use Rattle.xfield.specs.XFieldElements.{ext_of}
 use Rattle.table.specs.Columns.{element_at}
@@ -18,21 +16,21 @@ use Rattle.probes.proofs.combine_all.Goals as goal
 
 pub returns-then-left-out : goal.returns-then-left-out
 returns-then-left-out c = let all = declines _ _ _ (left_is_other _ _ _ c.if-left-out.true) in record {
-      answer = all.0;
-      elements = all.1;
-    }
+  answer = all.0;
+  elements = all.1;
+}
 
 pub returns-then-right-out : goal.returns-then-right-out
 returns-then-right-out c = let all = declines _ _ _ (right_is_other _ _ _ (omega arith) c.if-right-out.true) in record {
-      answer = all.0;
-      elements = all.1;
-    }
+  answer = all.0;
+  elements = all.1;
+}
 
 pub returns-then-left-ne0 : goal.returns-then-left-ne0
 returns-then-left-ne0 c = let all = declines _ _ _ (not_whole _ _ _ (omega arith) (omega arith) c.if-left-ne0.true) in record {
-      answer = all.0;
-      elements = all.1;
-    }
+  answer = all.0;
+  elements = all.1;
+}
 
 pub loop-i-init : goal.loop-i-init
 unfolding words_of_first

@@ -1,18 +1,11 @@
 -- What the loop of `combine_all` keeps, and what falls with each turn.
-use borrow.Author.Rules.{rules}
-use Prim.Native.Nat.{ℕ, ◌+◌, ◌*◌, ◌-◌, ◌<◌, ◌≤◌, ◌%◌, ◌/◌}
-use mathlib.Core.Path.{◌≡◌, refl, sym, ap, ◌∙◌}
-use native.Mathlib.Omega.{arith}
+use Prim.Native.Nat.{ℕ, ◌-◌, ◌≤◌}
+use mathlib.Core.Path.{◌≡◌}
 use lib.ListN.{length}
 use lib.Seq.{sets}
-use Rattle.xfield.specs.Extension.{Ext}
-use Rattle.xfield.specs.XFieldElements.{ext_of}
 use Rattle.table.specs.Columns.{element_at}
 use Rattle.probes.specs.ExtensionProbes.{words_of_first}
 use Rattle.probes.specs.Operations.{operation_x}
-use Rattle.probes.specs.Probes.{words_of}
-use Rattle.probes.proofs.Places.{declines, writes}
-use Rattle.probes.proofs.ElementPlaces.{left_is_other, right_is_other, not_whole, elements_fit_lem, element_turn, are_elementwise}
 use Rattle.probes.proofs.combine_all.Given as goal
 
 abbrev pub invariant-loop-i : goal.invariant-loop-i

@@ -1,6 +1,5 @@
 -- `probes::probe_chain` meets its contract. The loop's invariant: x is the chain of i products. Assumes nothing.
-use borrow.Author.Rules.{rules}
-use Prim.Native.Nat.{ℕ, ◌-◌, ◌≤◌}
+use Prim.Native.Nat.{ℕ}
 use mathlib.Core.Path.{◌≡◌, refl, ap, ◌∙◌}
 use native.Mathlib.Omega.{arith}
 use Rattle.field.specs.Elements.{mul_f}

@@ -1,11 +1,7 @@
 -- What the loop of `probe_chain` keeps, and what falls with each turn.
-use borrow.Author.Rules.{rules}
-use Prim.Native.Nat.{ℕ, ◌-◌, ◌≤◌}
-use mathlib.Core.Path.{◌≡◌, refl, ap, ◌∙◌}
-use native.Mathlib.Omega.{arith}
-use Rattle.field.specs.Elements.{mul_f}
+use Prim.Native.Nat.{◌-◌, ◌≤◌}
+use mathlib.Core.Path.{◌≡◌}
 use Rattle.probes.specs.Probes.{chain_of}
-use Rattle.probes.proofs.Places.{chain_turn}
 use Rattle.probes.proofs.probe_chain.Given as goal
 
 abbrev pub invariant-loop-i : goal.invariant-loop-i

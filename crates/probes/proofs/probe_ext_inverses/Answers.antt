@@ -1,26 +1,23 @@
 -- `probes::probe_ext_inverses` meets its contract. The loop's invariant: the elements passed are the inverses, and no place is lost. Assumes
 -- nothing.
-use borrow.Author.Rules.{rules}
-use Prim.Native.Nat.{ℕ, ◌+◌, ◌-◌, ◌*◌, ◌/◌, ◌≤◌, ◌<◌}
-use mathlib.Core.Path.{◌≡◌, refl, ◌∙◌}
+use Prim.Native.Nat.{◌+◌, ◌*◌, ◌≤◌}
+use mathlib.Core.Path.{refl, ◌∙◌}
 use native.Mathlib.Omega.{arith}
 use lib.ListN.{length}
-use Rattle.xfield.specs.Extension.{InverseOrZeroX}
-use Rattle.table.specs.Columns.{element_at}
 use Rattle.probes.proofs.Elements.{inverses_turn, ext_words_differ, not_whole, ext_inverses_fit_lem, ext_declines, ext_writes}
 use Rattle.probes.proofs.probe_ext_inverses.Goals as goal
 
 pub returns-then-words-out : goal.returns-then-words-out
 returns-then-words-out c = let all = ext_declines _ _ _ (ext_words_differ _ _ c.if-words-out.true) in record {
-      answer = all.0;
-      inverses = all.1;
-    }
+  answer = all.0;
+  inverses = all.1;
+}
 
 pub returns-then-words-ne0 : goal.returns-then-words-ne0
 returns-then-words-ne0 c = let all = ext_declines _ _ _ (not_whole _ _ (omega arith) c.if-words-ne0.true) in record {
-      answer = all.0;
-      inverses = all.1;
-    }
+  answer = all.0;
+  inverses = all.1;
+}
 
 pub loop-i-init : goal.loop-i-init
 loop-i-init c = (refl, omega arith, λ k h. absurd (omega arith))

@@ -1,12 +1,9 @@
 -- What the loop of `probe_ext_inverses` keeps, and what falls with each turn.
-use borrow.Author.Rules.{rules}
-use Prim.Native.Nat.{ℕ, ◌+◌, ◌-◌, ◌*◌, ◌/◌, ◌≤◌, ◌<◌}
-use mathlib.Core.Path.{◌≡◌, refl, ◌∙◌}
-use native.Mathlib.Omega.{arith}
+use Prim.Native.Nat.{ℕ, ◌-◌, ◌/◌, ◌≤◌, ◌<◌}
+use mathlib.Core.Path.{◌≡◌}
 use lib.ListN.{length}
 use Rattle.xfield.specs.Extension.{InverseOrZeroX}
 use Rattle.table.specs.Columns.{element_at}
-use Rattle.probes.proofs.Elements.{inverses_turn, ext_words_differ, not_whole, ext_inverses_fit_lem, ext_declines, ext_writes}
 use Rattle.probes.proofs.probe_ext_inverses.Given as goal
 
 abbrev pub invariant-loop-i : goal.invariant-loop-i

@@ -1,22 +1,18 @@
 -- `probes::probe_inverses` meets its contract. The loop's invariant: the places passed hold what they are to, and no place is lost. Assumes
 -- nothing.
-use borrow.Author.Rules.{rules}
-use Prim.Native.Nat.{ℕ, ◌-◌, ◌<◌, ◌≤◌}
-use mathlib.Core.Path.{◌≡◌, refl, sym, ap, ◌∙◌}
+use Prim.Native.Nat.{ℕ, ◌<◌}
+use mathlib.Core.Path.{refl}
 use native.Mathlib.Omega.{arith}
 use lib.ListN.{length, get_or, length-set}
-use lib.Seq.{ext_get_or}
-use borrow.Author.Tests.{eq-eqb, ne_eqb}
 use Rattle.field.specs.Elements.{inv_f}
-use Rattle.probes.specs.Probes.{inverses_of}
 use Rattle.probes.proofs.Places.{declines, writes, words_differ, inverses_fit_lem, are_inverses, turn}
 use Rattle.probes.proofs.probe_inverses.Goals as goal
 
 pub returns-then-words-out : goal.returns-then-words-out
 returns-then-words-out c = let all = declines _ _ _ (words_differ _ _ c.if-words-out.true) in record {
-      answer = all.0;
-      inverses = all.1;
-    }
+  answer = all.0;
+  inverses = all.1;
+}
 
 pub loop-i-init : goal.loop-i-init
 loop-i-init c = (refl, omega arith, λ k h. absurd (omega arith))
@@ -27,8 +23,7 @@ loop-i-smaller c = simp length-set (omega arith)
 pub loop-i-preserved : goal.loop-i-preserved
 loop-i-preserved c =
     let words = c.args.words.now in
-    let room : c.loop-i.i < length c.loop-i.out = omega arith in
-    (
+    let room : c.loop-i.i < length c.loop-i.out = omega arith in (
       simp length-set (omega arith),
       simp length-set (omega arith),
       turn (λ (k : ℕ). inv_f (get_or words k 0)) c.loop-i.out c.loop-i.i c.inverse_or_zero.result.0 room c.loop-i.invariant.2 c.inverse_or_zero.ensures,

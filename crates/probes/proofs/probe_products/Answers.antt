@@ -1,28 +1,24 @@
 -- `probes::probe_products` meets its contract. The loop's invariant: the places passed hold what they are to, and no place is lost. Assumes
 -- nothing.
-use borrow.Author.Rules.{rules}
-use Prim.Native.Nat.{ℕ, ◌-◌, ◌<◌, ◌≤◌}
-use mathlib.Core.Path.{◌≡◌, refl, sym, ap, ◌∙◌}
+use Prim.Native.Nat.{ℕ, ◌<◌}
+use mathlib.Core.Path.{refl}
 use native.Mathlib.Omega.{arith}
 use lib.ListN.{length, get_or, length-set}
-use lib.Seq.{ext_get_or}
-use borrow.Author.Tests.{eq-eqb, ne_eqb}
 use Rattle.field.specs.Elements.{mul_f}
-use Rattle.probes.specs.Probes.{products_of}
 use Rattle.probes.proofs.Places.{declines, writes, left_differs, right_differs, products_fit_lem, are_products, turn}
 use Rattle.probes.proofs.probe_products.Goals as goal
 
 pub returns-then-left-out : goal.returns-then-left-out
 returns-then-left-out c = let all = declines _ _ _ (left_differs _ _ _ c.if-left-out.true) in record {
-      answer = all.0;
-      products = all.1;
-    }
+  answer = all.0;
+  products = all.1;
+}
 
 pub returns-then-right-out : goal.returns-then-right-out
 returns-then-right-out c = let all = declines _ _ _ (right_differs _ _ _ (omega arith) c.if-right-out.true) in record {
-      answer = all.0;
-      products = all.1;
-    }
+  answer = all.0;
+  products = all.1;
+}
 
 pub loop-i-init : goal.loop-i-init
 loop-i-init c = (refl, omega arith, λ k h. absurd (omega arith))

@@ -1,14 +1,8 @@
 -- What the loop of `probe_products` keeps, and what falls with each turn.
-use borrow.Author.Rules.{rules}
 use Prim.Native.Nat.{ℕ, ◌-◌, ◌<◌, ◌≤◌}
-use mathlib.Core.Path.{◌≡◌, refl, sym, ap, ◌∙◌}
-use native.Mathlib.Omega.{arith}
-use lib.ListN.{length, get_or, length-set}
-use lib.Seq.{ext_get_or}
-use borrow.Author.Tests.{eq-eqb, ne_eqb}
+use mathlib.Core.Path.{◌≡◌}
+use lib.ListN.{length, get_or}
 use Rattle.field.specs.Elements.{mul_f}
-use Rattle.probes.specs.Probes.{products_of}
-use Rattle.probes.proofs.Places.{declines, writes, left_differs, right_differs, products_fit_lem, are_products, turn}
 use Rattle.probes.proofs.probe_products.Given as goal
 
 abbrev pub invariant-loop-i : goal.invariant-loop-i

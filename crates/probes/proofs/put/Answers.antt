@@ -1,8 +1,7 @@
 -- `probes::put` meets its contract: the three stores are the run of three words. Assumes nothing.
 use Prim.Native.Nat.{suc, ◌+◌, ◌*◌}
-use mathlib.Core.Path.{◌≡◌, refl}
+use mathlib.Core.Path.{◌≡◌}
 use native.Mathlib.Omega.{arith}
-use borrow.Author.Rules.{rules}
 use lib.ListN.{length-set}
 use Rattle.probes.specs.Probes.{words_of}
 use Rattle.probes.proofs.put.Goals as goal

@@ -1,5 +1,4 @@
 -- `probes::put_all` meets its contract: what the five stores leave is the words of all forty values (`all_stored`). Assumes nothing.
-use borrow.Author.Rules.{rules}
 use Rattle.probes.proofs.Elements.{all_stored}
 use Rattle.probes.proofs.put_all.Goals as goal
 

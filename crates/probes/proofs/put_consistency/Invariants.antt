@@ -1,14 +1,11 @@
 -- What the loop of `put_consistency` keeps, and what falls with each turn.
-use borrow.Author.Rules.{rules}
-use Prim.Native.Nat.{◌+◌, ◌-◌, ◌*◌, ◌≤◌}
-use mathlib.Core.Path.{◌≡◌, refl, ◌∙◌}
+use Prim.Native.Nat.{◌-◌, ◌≤◌}
+use mathlib.Core.Path.{◌≡◌}
 use mathlib.Core.List.{map}
-use native.Mathlib.Omega.{arith}
 use lib.ListN.{length, take}
 use lib.Seq.{sets}
 use Rattle.xfield.specs.XFieldElements.{ext_of}
 use Rattle.probes.specs.Probes.{words_of}
-use Rattle.probes.proofs.Elements.{elements_turn, elements_stored}
 use Rattle.probes.proofs.put_consistency.Given as goal
 
 abbrev pub invariant-loop-i : goal.invariant-loop-i

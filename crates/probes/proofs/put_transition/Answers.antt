@@ -1,12 +1,8 @@
 -- `probes::put_transition` meets its contract. The loop's invariant: the elements passed are stored, one after the other. Assumes nothing.
-use borrow.Author.Rules.{rules}
-use Prim.Native.Nat.{◌+◌, ◌-◌, ◌*◌, ◌≤◌}
-use mathlib.Core.Path.{◌≡◌, refl, ◌∙◌}
-use mathlib.Core.List.{map}
+use Prim.Native.Nat.{◌+◌, ◌*◌, ◌≤◌}
+use mathlib.Core.Path.{refl, ◌∙◌}
 use native.Mathlib.Omega.{arith}
-use lib.ListN.{length, take}
-use lib.Seq.{sets}
-use Rattle.xfield.specs.XFieldElements.{ext_of}
+use lib.ListN.{length}
 use Rattle.probes.specs.Probes.{words_of}
 use Rattle.probes.proofs.Elements.{elements_turn, elements_stored}
 use Rattle.probes.proofs.put_transition.Goals as goal
@@ -21,12 +17,11 @@ put-requires c =
     room
 
 pub loop-i-preserved : goal.loop-i-preserved
-loop-i-preserved c =
-    (
-      c.put.auto.words ∙ c.loop-i.invariant.0,
-      omega arith,
-      elements_turn _ _ _ c.args.transition 16 c.loop-i.i (omega (arith, c.requires.0)) c.loop-i.invariant.2 c.put.ensures,
-    )
+loop-i-preserved c = (
+  c.put.auto.words ∙ c.loop-i.invariant.0,
+  omega arith,
+  elements_turn _ _ _ c.args.transition 16 c.loop-i.i (omega (arith, c.requires.0)) c.loop-i.invariant.2 c.put.ensures,
+)
 
 pub returns : goal.returns
 returns c =
