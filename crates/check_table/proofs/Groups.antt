@@ -1,7 +1,7 @@
 -- The check's search as one walk over groups: the search in each group is that of the definition over the rows where it is asked, and the
 -- four joined are the whole search, for a table of one row or more. Assumes nothing.
 use Prim.Native.Nat.{ℕ, zero, suc, ◌+◌, ◌-◌, ◌<◌, ◌≤◌}
-use mathlib.Core.Path.{◌≡◌, refl}
+use mathlib.Core.Path.{◌≡◌}
 use mathlib.Core.Bool.{Bool, true, false, cond}
 use mathlib.Core.List.{List, []}
 use native.Mathlib.Nat.{sub-zero}

@@ -1,11 +1,8 @@
 -- `check_table::check` meets its contract. Where nothing is refused, the loop goes through the groups: the whole search is the search from this
 -- group on, and the measure is the groups that are left. The clauses on zero are the claims over the definition. Assumes nothing.
-use Prim.Native.Nat.{ℕ, ◌+◌, ◌-◌, ◌≤◌}
-use mathlib.Core.Path.{◌≡◌, sym, ◌∙◌}
+use mathlib.Core.Path.{sym, ◌∙◌}
 use native.Mathlib.Omega.{arith}
-use borrow.Author.Rules.{rules}
-use Rattle.air.specs.Check.{check_all}
-use Rattle.check_table.proofs.Groups.{first_in_groups, groups_done}
+use Rattle.check_table.proofs.Groups.{groups_done}
 use Rattle.air.proofs.Judging.{accepted}
 use Rattle.check_table.specs.declared.Verdict.TheVariants.{Zero, Nonzero, Refused}
 use Rattle.check_table.proofs.Joined.{refused, not_refused, group_found, group_passed}

@@ -1,14 +1,8 @@
 -- What the loop of `check` keeps, and what falls with each turn.
-use Prim.Native.Nat.{ℕ, ◌+◌, ◌-◌, ◌≤◌}
-use mathlib.Core.Path.{◌≡◌, sym, ◌∙◌}
-use native.Mathlib.Omega.{arith}
-use borrow.Author.Rules.{rules}
+use Prim.Native.Nat.{◌-◌, ◌≤◌}
+use mathlib.Core.Path.{◌≡◌}
 use Rattle.air.specs.Check.{check_all}
-use Rattle.check_table.proofs.Groups.{first_in_groups, groups_done}
-use Rattle.air.proofs.Judging.{accepted}
-use Rattle.check_table.specs.declared.Verdict.TheVariants.{Zero, Nonzero, Refused}
-use Rattle.check_table.proofs.Joined.{refused, not_refused, group_found, group_passed}
-use Rattle.check_table.proofs.Clauses.{clauses}
+use Rattle.check_table.proofs.Groups.{first_in_groups}
 use Rattle.check_table.proofs.check.Given as goal
 
 abbrev pub invariant-groups : goal.invariant-groups

@@ -1,8 +1,6 @@
 -- `check_table::search_group` meets its contract: each group's search is that of its constraints over its rows. Assumes nothing.
-use Prim.Native.Nat.{ℕ, ◌-◌}
-use mathlib.Core.Path.{◌≡◌, refl, ◌∙◌}
+use mathlib.Core.Path.{◌≡◌, ◌∙◌}
 use native.Mathlib.Omega.{arith}
-use Rattle.table.specs.Columns.{row_count}
 use Rattle.check_table.proofs.Groups.{initial_group, consistency_group, transition_group, terminal_group}
 use Rattle.check_table.proofs.search_group.Goals as goal
 
