@@ -7,23 +7,15 @@ use Rattle.archive.specs.Archives.{TableAndAux}
 use Rattle.c_archive.proofs.restore.Goals as goal
 
 pub returns-in-Done : goal.returns-in-Done
-returns-in-Done c = let all =
-    (
-      ap (λ (a : Answer). a.number) (ap completed_answer (sym c.in-Done.is) ∙ c.restore.ensures.answer),
-      (ap (λ (t : TableAndAux). t.table) c.restore.ensures.left, ap (λ (t : TableAndAux). t.aux) c.restore.ensures.left),
-    ) in record {
-      number = all.0;
-      table = all.1.0;
-      aux = all.1.1;
-    }
+returns-in-Done c = record {
+  number = ap (λ (a : Answer). a.number) (ap completed_answer (sym c.in-Done.is) ∙ c.restore.ensures.answer);
+  table = ap (λ (t : TableAndAux). t.table) c.restore.ensures.left;
+  aux = ap (λ (t : TableAndAux). t.aux) c.restore.ensures.left;
+}
 
 pub returns-in-Refused : goal.returns-in-Refused
-returns-in-Refused c = let all =
-    (
-      c.number.ensures ∙ ap (λ (a : Answer). a.number) (ap completed_answer (sym c.in-Refused.is) ∙ c.restore.ensures.answer),
-      (ap (λ (t : TableAndAux). t.table) c.restore.ensures.left, ap (λ (t : TableAndAux). t.aux) c.restore.ensures.left),
-    ) in record {
-      number = all.0;
-      table = all.1.0;
-      aux = all.1.1;
-    }
+returns-in-Refused c = record {
+  number = c.number.ensures ∙ ap (λ (a : Answer). a.number) (ap completed_answer (sym c.in-Refused.is) ∙ c.restore.ensures.answer);
+  table = ap (λ (t : TableAndAux). t.table) c.restore.ensures.left;
+  aux = ap (λ (t : TableAndAux). t.aux) c.restore.ensures.left;
+}
