@@ -148,6 +148,7 @@ last_row q w e =
 
 upper_row : (q : Pending) → Fitting q → is_last q ≡ false → (below : Section)
     → IsSection (next_pending q) below → IsSection q (above_section q below)
+upper_row q w e no_section s = elim s [ ]
 upper_row q w e (rows next more) s =
     rw carried
     (record {
@@ -218,6 +219,7 @@ honest_section e multiplicity a m =
     (section_from_lem 34 (first_pending e multiplicity) (first_fits e multiplicity a m) (omega (arith, height_bound e a)))
   where
     go : (s : Section) → section e multiplicity ≡ s → IsSection (first_pending e multiplicity) s → HonestSection e multiplicity
+    go no_section k s = elim s [ ]
     go (rows first more) k s =
         let f = s.first_is ∙ first_row_is e multiplicity a in
         record {

@@ -78,7 +78,7 @@ module _ (c : Challenges) (row : Row) (bit : (row.copy_flag ≡ 0) ⊎ (row.copy
 pub sum_join : (c : Challenges) (sum : Ext) (xs ys : List Row) → sum_from c sum (xs ++ ys) ≡ sum_from c (sum_from c sum xs) ys
 unfolding sum_from
 sum_join c sum [] ys = refl
-sum_join c sum (a ∷ xs) ys = sum_join c _ xs ys
+sum_join c sum (a ∷ xs) ys = sum_join c (add_x sum (scale_x a.lookup_multiplicity (inv_x (row_denominator c a)))) xs ys
 
 -- ---- only the CopyFlag 1 rows count, for the denominators and for the sum
 module _ (table challenges : List ℕ) where
