@@ -10,7 +10,7 @@ use lib.Seq.{get_or-append-add}
 use Rattle.xfield.specs.Extension.{Ext, zero_x, add_x, Reduced}
 use Rattle.xfield.specs.Inverses.{inv_x}
 use Rattle.xfield.proofs.Laws.{scale_x_one, add_x_of_red, sub_x_reduced}
-use Rattle.isa.specs.Entries.{entry, entry_words, entry_width, admitted}
+use Rattle.isa.specs.Entries.{entry_words, entry_width, admitted}
 use Rattle.isa.specs.declared.U32TableEntry.{U32TableEntry}
 use Rattle.table.specs.Challenges.{challenges_of, denominator}
 use Rattle.sums.specs.RunningSum.{add_summand, running_sum}

@@ -1,13 +1,12 @@
 -- The byte lookup is the cascade on the values below 256, since byte 0 goes to 0: so one loop makes both sums. Assumes nothing.
-use Prim.Native.Nat.{ℕ, ◌+◌, ◌*◌, ◌/◌, ◌%◌, ◌<◌}
+use Prim.Native.Nat.{ℕ, ◌/◌, ◌%◌, ◌<◌}
 use mathlib.Core.Path.{◌≡◌, refl}
 use mathlib.Core.List.{List}
 use native.Mathlib.Omega.{arith}
 use lib.ListN.{get_or}
 use Rattle.words.specs.Limits.{byte_rows}
-use Rattle.sums.specs.RunningSum.{Summand}
 use Rattle.lookup.specs.ByteLookup.{byte_output, cascade_output}
-use Rattle.lookup_sums.specs.LookupSums.{lookup_challenges_of, lookup_summand, byte_summand, cascade_summand}
+use Rattle.lookup_sums.specs.LookupSums.{byte_summand, cascade_summand}
 
 zero_to_zero : byte_output 0 ≡ 0
 unfolding byte_output

@@ -2,18 +2,18 @@
 -- bytes is that over the cascade's places that hold 0, 1, .., 255 (bytes_summed); and that the answer is 9 exactly where some denominator is zero and
 -- 1 and 8 are not met (byte_flat_exactly, cascade_flat_exactly). Assumes nothing.
 use Prim.Native.Nat.{ℕ, ◌+◌, ◌*◌, ◌<◌}
-use mathlib.Core.Path.{◌≡◌, refl, sym, ap, ap₂, ◌∙◌}
+use mathlib.Core.Path.{◌≡◌, refl, sym, ap, ◌∙◌}
 use mathlib.Core.Logic.{◌↔◌}
 use mathlib.Core.Bool.{Bool, true, false, not, ◌&&◌, and-eq-true_iff}
 use mathlib.Core.List.{List}
 use native.Mathlib.Omega.{arith}
 use lib.ListN.{length, get_or, set, take}
-use lib.Seq.{sets, get_or-set_same, get_or-set_other}
+use lib.Seq.{get_or-set_same, get_or-set_other}
 use borrow.Author.Count.{below_more}
 use borrow.Author.Tests.{eqb-true, eq-eqb, ne_eqb}
 use Rattle.words.specs.Answers.{declined}
 use Rattle.words.specs.Limits.{byte_rows}
-use Rattle.words.specs.Outcomes.{Outcome, outcome}
+use Rattle.words.specs.Outcomes.{Outcome}
 use Rattle.words.specs.Refusals.{decline_if, or_else}
 use Rattle.words.specs.declared.Judgement.{Judgement}
 use Rattle.words.specs.declared.Judgement.TheVariants.{Fine, Declined}
@@ -22,7 +22,7 @@ use Rattle.words.proofs.Outcomes.{outcome_declined}
 use Rattle.xfield.specs.Extension.{Ext, Reduced, is_zero_x}
 use Rattle.xfield.proofs.Laws.{sub_x_reduced}
 use Rattle.table.specs.Columns.{aux_width, all_reduced}
-use Rattle.sums.specs.RunningSum.{Summand, running_sum, element_words, sum_words, denominator_ok, denominators_ok, ZeroDenominator}
+use Rattle.sums.specs.RunningSum.{Summand, denominator_ok, denominators_ok, ZeroDenominator}
 use Rattle.sums.proofs.RunningSums.{sum_cong}
 use Rattle.sums.proofs.SumsAlike.{words_alike, denominators_alike}
 use Rattle.sums.proofs.ZeroDenominators as Denominators
@@ -30,7 +30,7 @@ use Rattle.lookup.specs.ByteLookup.{cascade_output}
 use Rattle.lookup.specs.Cascades.{Cascade, capacity, used, cascade_shape, bytes_shape}
 use Rattle.lookup_sums.specs.LookupSums.{LookupChallenges, lookup_challenge_words, lookup_challenges_of, lookup_denominator, lookup_summand, byte_summand, cascade_summand}
 use Rattle.lookup_sums.specs.LookupSums.{sum_shape, places_reason, summed_as, byte_sum_reason, byte_sum_all, cascade_sum_reason, cascade_sum_all}
-use Rattle.lookup_sums.specs.Flat.{OnlyByteFlat, ByteFlatExactly, OnlyCascadeFlat, CascadeFlatExactly}
+use Rattle.lookup_sums.specs.Flat.{ByteFlatExactly, CascadeFlatExactly}
 use Rattle.lookup_sums.proofs.OneSum.{byte_summand_lem}
 
 -- ---- the numbers 0, 1, .. one after the other

@@ -1,9 +1,7 @@
 -- `archive::archive` meets its contract: each return is the reason whose turn it is, no byte is stored before all are asked, and the parts of the archive
 -- are stored one after the other. Assumes nothing.
-use mathlib.Core.Path.{sym, ◌∙◌}
+use mathlib.Core.Path.{sym}
 use native.Mathlib.Omega.{arith}
-use borrow.Author.Rules.{rules}
-use borrow.Author.Tests.{not-true, not-false}
 use Rattle.archive.proofs.Columns.{put_archive}
 use Rattle.archive.proofs.Reasons.{shaped, archive_shape, archive_short, archive_unreduced, archive_fine, archived_refused, archived_done}
 use Rattle.archive.proofs.archive.Goals as goal

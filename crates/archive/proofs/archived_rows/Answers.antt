@@ -1,5 +1,4 @@
 -- `archive::archived_rows` meets its contract: `word_at` reads the first word. Assumes nothing.
-use borrow.Author.Rules.{rules}
 use Rattle.archive.specs.Archives.{archived_word}
 use Rattle.archive.proofs.archived_rows.Goals as goal
 

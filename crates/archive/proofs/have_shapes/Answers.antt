@@ -1,6 +1,4 @@
 -- `archive::have_shapes` meets its contract: the two tests are the definitions', in their order. Assumes nothing.
-use mathlib.Core.Path.{refl}
-use borrow.Author.Rules.{rules}
 use Rattle.table.specs.Columns.{aux_shape}
 use Rattle.archive.proofs.have_shapes.Goals as goal
 

@@ -1,8 +1,6 @@
 -- `archive::judge_restoring` meets its contract: each return is the reason whose turn it is. Assumes nothing.
-use mathlib.Core.Path.{sym, ap, ◌∙◌}
+use mathlib.Core.Path.{sym, ◌∙◌}
 use native.Mathlib.Omega.{arith}
-use borrow.Author.Rules.{rules}
-use borrow.Author.Tests.{not-true, not-false}
 use Rattle.archive.proofs.Reasons.{whole, restore_shape, restore_torn, restore_short, restore_unreduced, restore_fine}
 use Rattle.archive.proofs.judge_restoring.Goals as goal
 

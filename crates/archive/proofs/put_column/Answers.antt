@@ -1,18 +1,15 @@
 -- `archive::put_column` meets its contract. The loop's invariant: what is to be stored in all is what is left to be stored, from row i on, in the bytes as
 -- they are. Assumes nothing.
-use Prim.Native.Nat.{ℕ, ◌≤◌, ◌<◌, ◌-◌, ◌+◌, ◌*◌}
-use mathlib.Core.Path.{◌≡◌, refl, sym, ap, ◌∙◌}
-use mathlib.Core.List.{flat_map}
+use Prim.Native.Nat.{◌+◌, ◌*◌}
+use mathlib.Core.Path.{refl, sym, ap, ◌∙◌}
 use native.Mathlib.Nat.{sub-zero, add-zero}
 use native.Mathlib.Omega.{arith}
 use borrow.Author.Rules.{rules}
-use lib.ListN.{length}
 use lib.Seq.{sets}
-use Rattle.words.specs.Places.{places_from}
 use Rattle.words.proofs.Places.{flat_turn, flat_done}
 use Rattle.archive.specs.Archives.{word_width}
 use Rattle.archive.proofs.Blocks.{in_blocks}
-use Rattle.archive.proofs.Columns.{column_bytes, cell_bytes, column_bytes_lem, cell_length}
+use Rattle.archive.proofs.Columns.{cell_bytes, column_bytes_lem, cell_length}
 use Rattle.archive.proofs.put_column.Goals as goal
 
 pub loop-i-init : goal.loop-i-init

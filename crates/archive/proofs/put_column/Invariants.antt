@@ -1,17 +1,12 @@
 -- What the loop of `put_column` keeps, and what falls with each turn.
-use Prim.Native.Nat.{ℕ, ◌≤◌, ◌<◌, ◌-◌, ◌+◌, ◌*◌}
-use mathlib.Core.Path.{◌≡◌, refl, sym, ap, ◌∙◌}
+use Prim.Native.Nat.{◌≤◌, ◌-◌, ◌+◌, ◌*◌}
+use mathlib.Core.Path.{◌≡◌}
 use mathlib.Core.List.{flat_map}
-use native.Mathlib.Nat.{sub-zero, add-zero}
-use native.Mathlib.Omega.{arith}
-use borrow.Author.Rules.{rules}
 use lib.ListN.{length}
 use lib.Seq.{sets}
 use Rattle.words.specs.Places.{places_from}
-use Rattle.words.proofs.Places.{flat_turn, flat_done}
 use Rattle.archive.specs.Archives.{word_width}
-use Rattle.archive.proofs.Blocks.{in_blocks}
-use Rattle.archive.proofs.Columns.{column_bytes, cell_bytes, column_bytes_lem, cell_length}
+use Rattle.archive.proofs.Columns.{column_bytes, cell_bytes}
 use Rattle.archive.proofs.put_column.Given as goal
 
 abbrev pub invariant-loop-i : goal.invariant-loop-i

@@ -1,17 +1,13 @@
 -- `archive::put_columns` meets its contract. The loop's invariant: what is to be stored in all is what is left to be stored, from column c on, in the
 -- bytes as they are. Assumes nothing.
-use Prim.Native.Nat.{ℕ, ◌≤◌, ◌<◌, ◌-◌, ◌+◌, ◌*◌}
-use mathlib.Core.Path.{◌≡◌, refl, sym, ap, ◌∙◌}
-use mathlib.Core.List.{flat_map}
+use Prim.Native.Nat.{◌+◌, ◌*◌}
+use mathlib.Core.Path.{refl, sym, ap, ◌∙◌}
 use native.Mathlib.Nat.{sub-zero, add-zero, mul-zero}
 use native.Mathlib.Omega.{arith}
 use borrow.Author.Rules.{rules}
-use lib.ListN.{length}
 use lib.Seq.{sets}
-use Rattle.words.specs.LittleEndian.{le}
-use Rattle.words.specs.Places.{places_from}
 use Rattle.words.proofs.Places.{flat_turn, flat_done}
-use Rattle.archive.specs.Archives.{word_width, columns}
+use Rattle.archive.specs.Archives.{word_width}
 use Rattle.archive.proofs.Blocks.{block_end}
 use Rattle.archive.proofs.Columns.{column_bytes, columns_bytes, column_length}
 use Rattle.archive.proofs.put_columns.Goals as goal
@@ -35,14 +31,13 @@ put_column-requires c =
     (omega arith, omega arith, omega arith)
 
 pub loop-c-preserved : goal.loop-c-preserved
-loop-c-preserved c =
-    (
-      search rules,
-      c.put_column.auto.out ∙ c.loop-c.invariant.1,
-      c.loop-c.invariant.2
-          ∙ flat_turn (column_bytes c.args.width c.args.cells.now c.args.rows) (word_width * c.args.rows) c.args.at c.loop-c.c c.args.width c.loop-c.out
-          c.put_column.new.out c.loop-c-test.true (column_length c.args.width c.args.cells.now c.args.rows c.loop-c.c) c.put_column.ensures,
-    )
+loop-c-preserved c = (
+  search rules,
+  c.put_column.auto.out ∙ c.loop-c.invariant.1,
+  c.loop-c.invariant.2
+      ∙ flat_turn (column_bytes c.args.width c.args.cells.now c.args.rows) (word_width * c.args.rows) c.args.at c.loop-c.c c.args.width c.loop-c.out
+      c.put_column.new.out c.loop-c-test.true (column_length c.args.width c.args.cells.now c.args.rows c.loop-c.c) c.put_column.ensures,
+)
 
 pub shape_of-out : goal.shape_of-out
 shape_of-out c = c.loop-c.invariant.1

@@ -1,18 +1,13 @@
 -- What the loop of `put_columns` keeps, and what falls with each turn.
-use Prim.Native.Nat.{ℕ, ◌≤◌, ◌<◌, ◌-◌, ◌+◌, ◌*◌}
-use mathlib.Core.Path.{◌≡◌, refl, sym, ap, ◌∙◌}
+use Prim.Native.Nat.{◌≤◌, ◌-◌, ◌+◌, ◌*◌}
+use mathlib.Core.Path.{◌≡◌}
 use mathlib.Core.List.{flat_map}
-use native.Mathlib.Nat.{sub-zero, add-zero, mul-zero}
-use native.Mathlib.Omega.{arith}
-use borrow.Author.Rules.{rules}
 use lib.ListN.{length}
 use lib.Seq.{sets}
 use Rattle.words.specs.LittleEndian.{le}
 use Rattle.words.specs.Places.{places_from}
-use Rattle.words.proofs.Places.{flat_turn, flat_done}
 use Rattle.archive.specs.Archives.{word_width, columns}
-use Rattle.archive.proofs.Blocks.{block_end}
-use Rattle.archive.proofs.Columns.{column_bytes, columns_bytes, column_length}
+use Rattle.archive.proofs.Columns.{column_bytes}
 use Rattle.archive.proofs.put_columns.Given as goal
 
 abbrev pub invariant-loop-c : goal.invariant-loop-c

@@ -1,14 +1,13 @@
 -- `archive::put_row` meets its contract. The loop's invariant: what is to be stored in all is what is left to be stored, from column c on, in the words as
 -- they are. Assumes nothing.
-use Prim.Native.Nat.{ℕ, ◌≤◌, ◌<◌, ◌-◌, ◌+◌, ◌*◌}
-use mathlib.Core.Path.{◌≡◌, refl, sym, ap, ◌∙◌}
+use Prim.Native.Nat.{ℕ, ◌+◌, ◌*◌}
+use mathlib.Core.Path.{refl, sym, ap, ◌∙◌}
 use mathlib.Core.List.{List, map}
 use native.Mathlib.Nat.{sub-zero, add-zero}
 use native.Mathlib.Omega.{arith}
 use borrow.Author.Rules.{rules}
-use lib.ListN.{length, length-set}
+use lib.ListN.{length-set}
 use lib.Seq.{sets}
-use Rattle.words.specs.Places.{places_from, places}
 use Rattle.words.proofs.Places.{places_done}
 use Rattle.archive.specs.Archives.{archived_word}
 use Rattle.archive.proofs.Blocks.{in_blocks, word_turn}

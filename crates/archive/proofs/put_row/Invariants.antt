@@ -1,16 +1,11 @@
 -- What the loop of `put_row` keeps, and what falls with each turn.
-use Prim.Native.Nat.{ℕ, ◌≤◌, ◌<◌, ◌-◌, ◌+◌, ◌*◌}
-use mathlib.Core.Path.{◌≡◌, refl, sym, ap, ◌∙◌}
+use Prim.Native.Nat.{ℕ, ◌≤◌, ◌-◌, ◌+◌, ◌*◌}
+use mathlib.Core.Path.{◌≡◌}
 use mathlib.Core.List.{List, map}
-use native.Mathlib.Nat.{sub-zero, add-zero}
-use native.Mathlib.Omega.{arith}
-use borrow.Author.Rules.{rules}
-use lib.ListN.{length, length-set}
+use lib.ListN.{length}
 use lib.Seq.{sets}
 use Rattle.words.specs.Places.{places_from, places}
-use Rattle.words.proofs.Places.{places_done}
 use Rattle.archive.specs.Archives.{archived_word}
-use Rattle.archive.proofs.Blocks.{in_blocks, word_turn}
 use Rattle.archive.proofs.put_row.Given as goal
 
 -- the word of column c

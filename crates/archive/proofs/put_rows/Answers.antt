@@ -1,16 +1,12 @@
 -- `archive::put_rows` meets its contract. The loop's invariant: what is to be stored in all is what is left to be stored, from row i on, in the words as
 -- they are. Assumes nothing.
-use Prim.Native.Nat.{ℕ, ◌≤◌, ◌<◌, ◌-◌, ◌+◌, ◌*◌}
-use mathlib.Core.Path.{◌≡◌, refl, sym, ap, ◌∙◌}
-use mathlib.Core.List.{List, map, flat_map}
+use Prim.Native.Nat.{◌+◌, ◌*◌}
+use mathlib.Core.Path.{refl, sym, ap, ◌∙◌}
 use native.Mathlib.Nat.{sub-zero, zero-add, mul-zero}
-use native.Mathlib.Omega.{arith}
 use borrow.Author.Rules.{rules}
-use lib.ListN.{length}
 use lib.Seq.{sets}
-use Rattle.words.specs.Places.{places_from, places}
 use Rattle.words.proofs.Places.{flat_turn, flat_done, length-map}
-use Rattle.archive.specs.Archives.{archived_word, rows_from}
+use Rattle.archive.specs.Archives.{rows_from}
 use Rattle.archive.proofs.put_rows.Invariants.{row}
 use Rattle.archive.proofs.put_rows.Goals as goal
 
@@ -19,14 +15,13 @@ unfolding rows_from
 loop-i-init c = (search rules, refl, rw (sub-zero, mul-zero))
 
 pub loop-i-preserved : goal.loop-i-preserved
-loop-i-preserved c =
-    (
-      search rules,
-      c.put_row.auto.to ∙ c.loop-i.invariant.1,
-      c.loop-i.invariant.2
-          ∙ flat_turn (row c.args.bytes.now c.args.from c.args.width c.args.rows) c.args.width 0 c.loop-i.i c.args.rows c.loop-i.to
-          c.put_row.new.to c.loop-i-test.true (length-map _ 0 c.args.width) (rw zero-add c.put_row.ensures),
-    )
+loop-i-preserved c = (
+  search rules,
+  c.put_row.auto.to ∙ c.loop-i.invariant.1,
+  c.loop-i.invariant.2
+      ∙ flat_turn (row c.args.bytes.now c.args.from c.args.width c.args.rows) c.args.width 0 c.loop-i.i c.args.rows c.loop-i.to
+      c.put_row.new.to c.loop-i-test.true (length-map _ 0 c.args.width) (rw zero-add c.put_row.ensures),
+)
 
 pub shape_of-to : goal.shape_of-to
 shape_of-to c = c.loop-i.invariant.1

@@ -1,14 +1,10 @@
 -- What the loop of `put_rows` keeps, and what falls with each turn.
-use Prim.Native.Nat.{ℕ, ◌≤◌, ◌<◌, ◌-◌, ◌+◌, ◌*◌}
-use mathlib.Core.Path.{◌≡◌, refl, sym, ap, ◌∙◌}
+use Prim.Native.Nat.{ℕ, ◌≤◌, ◌-◌, ◌+◌, ◌*◌}
+use mathlib.Core.Path.{◌≡◌}
 use mathlib.Core.List.{List, map, flat_map}
-use native.Mathlib.Nat.{sub-zero, zero-add, mul-zero}
-use native.Mathlib.Omega.{arith}
-use borrow.Author.Rules.{rules}
 use lib.ListN.{length}
 use lib.Seq.{sets}
 use Rattle.words.specs.Places.{places_from, places}
-use Rattle.words.proofs.Places.{flat_turn, flat_done, length-map}
 use Rattle.archive.specs.Archives.{archived_word, rows_from}
 use Rattle.archive.proofs.put_rows.Given as goal
 

@@ -2,7 +2,6 @@
 -- front. Assumes nothing.
 use mathlib.Core.Path.{sym, ◌∙◌}
 use native.Mathlib.Omega.{arith}
-use borrow.Author.Rules.{rules}
 use Rattle.archive.proofs.Reasons.{shaped, restorable, restored_refused, restored_done}
 use Rattle.archive.proofs.restore.Goals as goal
 

@@ -2,7 +2,6 @@
 -- whatever it is. Assumes nothing.
 use mathlib.Core.Path.{sym, ap, ◌∙◌}
 use native.Mathlib.Omega.{arith}
-use borrow.Author.Rules.{rules}
 use Rattle.archive.specs.Archives.{archive_length}
 use Rattle.archive.proofs.Reasons.{whole_fine, torn_short, torn_many, torn_length}
 use Rattle.archive.proofs.torn.Goals as goal

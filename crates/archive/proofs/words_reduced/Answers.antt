@@ -1,11 +1,10 @@
 -- `archive::words_reduced` meets its contract. The loop's invariant: each word passed is below p. A word p or more decides the answer, and at the end all
 -- words have been passed. Assumes nothing.
-use Prim.Native.Nat.{ℕ, ◌+◌, ◌*◌, ◌-◌, ◌<◌, ◌≤◌}
-use mathlib.Core.Path.{◌≡◌, sym}
+use Prim.Native.Nat.{ℕ, ◌+◌, ◌<◌, ◌≤◌}
+use mathlib.Core.Path.{◌≡◌}
 use mathlib.Core.Logic.{⊎_elim}
 use native.Mathlib.Nat.{eq-or-lt_of_le}
 use native.Mathlib.Omega.{arith}
-use borrow.Author.Rules.{rules}
 use Rattle.field.specs.Elements.{p}
 use Rattle.archive.specs.Archives.{archived_word}
 use Rattle.archive.proofs.Columns.{words_passed, word_found}

@@ -1,13 +1,7 @@
 -- What the loop of `words_reduced` keeps, and what falls with each turn.
-use Prim.Native.Nat.{ℕ, ◌+◌, ◌*◌, ◌-◌, ◌<◌, ◌≤◌}
-use mathlib.Core.Path.{◌≡◌, sym}
-use mathlib.Core.Logic.{⊎_elim}
-use native.Mathlib.Nat.{eq-or-lt_of_le}
-use native.Mathlib.Omega.{arith}
-use borrow.Author.Rules.{rules}
+use Prim.Native.Nat.{ℕ, ◌-◌, ◌<◌, ◌≤◌}
 use Rattle.field.specs.Elements.{p}
 use Rattle.archive.specs.Archives.{archived_word}
-use Rattle.archive.proofs.Columns.{words_passed, word_found}
 use Rattle.archive.proofs.words_reduced.Given as goal
 
 abbrev pub invariant-loop-k : goal.invariant-loop-k

@@ -1,21 +1,18 @@
 -- `client_sum::compute_terminal` meets its contract. The loop's invariant: the first reason against the call is the first among the requests from
 -- `i` on, and `sum` is the sum of those before it. A request that is refused, or whose denominator is zero, decides the answer; at the end all
 -- have been passed. Assumes nothing.
-use Prim.Native.Nat.{ℕ, ◌+◌, ◌-◌, ◌≤◌}
+use Prim.Native.Nat.{ℕ, ◌+◌}
 use mathlib.Core.Path.{◌≡◌, refl, sym, ap, ◌∙◌}
 use mathlib.Core.Bool.{true, false}
 use mathlib.Core.List.{List}
 use native.Mathlib.Omega.{arith}
 use borrow.Author.Rules.{rules}
-use borrow.Author.Tests.{not-true, not-false}
-use Rattle.words.specs.Refusals.{first_reason}
 use Rattle.words.specs.declared.Judgement.TheVariants.{Fine, Declined}
 use Rattle.words.specs.declared.Refusal.{Refusal}
 use Rattle.words.specs.declared.Refusal.TheVariants.{Flat}
 use Rattle.words.proofs.Judgements.{first_hit, first_step, first_done, first_start}
 use Rattle.xfield.specs.Extension.{Ext, add_x, is_zero_x, InverseOrZeroX}
 use Rattle.xfield.specs.Inverses.{inv_x}
-use Rattle.xfield.specs.XFieldElements.{ext_of}
 use Rattle.xfield.proofs.Laws.{inv_x_only}
 use Rattle.isa.specs.declared.U32TableEntry.{U32TableEntry}
 use Rattle.isa.specs.declared.Admission.{Admission}
@@ -25,7 +22,7 @@ use Rattle.isa.proofs.Entries.{admit_admitted, admit_refused}
 use Rattle.table.specs.Challenges.{Challenges, challenges_of}
 use Rattle.table.proofs.Rows.{challenges_shaped}
 use Rattle.sums.specs.RunningSum.{running_sum}
-use Rattle.client_sum.specs.Client.{entry_denominator, request_count, request_at, request_summand, request_reason, client_reason}
+use Rattle.client_sum.specs.Client.{entry_denominator, request_count, request_at, request_summand, request_reason}
 use Rattle.client_sum.proofs.Sums.{request_denominator, request_turn}
 use Rattle.client_sum.proofs.Reasons.{not_admitted, is_flat, is_fine, torn_requests, no_challenges, unreduced, request_by_request, refused, summed}
 use Rattle.client_sum.proofs.compute_terminal.Goals as goal
@@ -74,14 +71,13 @@ from_words-elements-requires c =
 
 pub loop-i-init : goal.loop-i-init
 unfolding running_sum
-loop-i-init c =
-    (
-      omega arith,
-      request_by_request _ _ (omega (arith, c.if-requests-ne0.false)) (sym c.if-not-has_shape.ensures)
-          (sym c.if-not-all_reduced.ensures)
-          ∙ sym (first_start _ _),
-      refl,
-    )
+loop-i-init c = (
+  omega arith,
+  request_by_request _ _ (omega (arith, c.if-requests-ne0.false)) (sym c.if-not-has_shape.ensures)
+      (sym c.if-not-all_reduced.ensures)
+      ∙ sym (first_start _ _),
+  refl,
+)
 
 pub returns-then-is_zero : goal.returns-then-is_zero
 returns-then-is_zero c =

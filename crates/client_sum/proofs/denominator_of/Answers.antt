@@ -1,5 +1,4 @@
 -- `client_sum::denominator_of` meets its contract: the Result is the plain function's. Assumes nothing.
-use borrow.Author.Rules.{rules}
 use Rattle.client_sum.proofs.denominator_of.Goals as goal
 
 pub returns : goal.returns

@@ -1,6 +1,5 @@
 -- `lookup_sums::add_value` meets its contract: the flag is 1, so the summand adds its share. Assumes nothing.
-use mathlib.Core.Path.{◌≡◌, refl, sym, ap, ◌∙◌}
-use borrow.Author.Rules.{rules}
+use mathlib.Core.Path.{refl, sym, ap, ◌∙◌}
 use Rattle.xfield.specs.Extension.{add_x, scale_x}
 use Rattle.xfield.specs.Inverses.{inv_x}
 use Rattle.xfield.proofs.Inverses.{inv_x_only}

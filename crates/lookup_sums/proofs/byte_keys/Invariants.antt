@@ -1,10 +1,7 @@
 -- What the loop of `byte_keys` keeps, and what falls with each turn.
 use Prim.Native.Nat.{ℕ, ◌-◌, ◌≤◌, ◌<◌}
-use mathlib.Core.Path.{◌≡◌, refl, ◌∙◌}
-use native.Mathlib.Omega.{arith}
-use borrow.Author.Rules.{rules}
-use lib.ListN.{length, get_or, length-set}
-use Rattle.lookup_sums.proofs.Sums.{one_key_more}
+use mathlib.Core.Path.{◌≡◌}
+use lib.ListN.{length, get_or}
 use Rattle.lookup_sums.proofs.byte_keys.Given as goal
 
 abbrev pub invariant-loop-byte : goal.invariant-loop-byte

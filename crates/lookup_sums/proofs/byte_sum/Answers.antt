@@ -3,12 +3,9 @@ use mathlib.Core.Path.{◌≡◌, refl, sym, ◌∙◌}
 use mathlib.Core.List.{List}
 use native.Mathlib.Omega.{arith}
 use Prim.Native.Nat.{ℕ}
-use borrow.Author.Rules.{rules}
-use borrow.Author.Tests.{not-true, not-false}
-use Rattle.words.specs.Answers.{Answer, declined}
+use Rattle.words.specs.Answers.{Answer}
 use Rattle.words.specs.Limits.{byte_rows}
 use Rattle.words.specs.Outcomes.{Outcome, Leaves}
-use Rattle.words.specs.declared.Refusal.TheVariants.{Shape}
 use Rattle.lookup_sums.proofs.Sums.{sum_shaped, bytes_wrong, bytes_right, byte_sum_wrong, byte_sum_right, bytes_summed}
 use Rattle.lookup_sums.proofs.byte_sum.Goals as goal
 

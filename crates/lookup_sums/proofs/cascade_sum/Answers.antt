@@ -4,8 +4,6 @@ use mathlib.Core.Bool.{Bool, true, false, ◌&&◌}
 use mathlib.Core.List.{List}
 use native.Mathlib.Omega.{arith}
 use Prim.Native.Nat.{ℕ}
-use borrow.Author.Rules.{rules}
-use borrow.Author.Tests.{not-true, not-false}
 use Rattle.words.specs.Answers.{Answer}
 use Rattle.words.specs.Outcomes.{Outcome, Leaves}
 use Rattle.lookup.proofs.LookupCases.{shaped}

@@ -1,7 +1,7 @@
 -- `lookup_sums::denominator_of` meets its contract: the lent table makes the cascade's output (both_looked_up); input
 -- and output go where the definition has them. Assumes nothing.
 use Prim.Native.Nat.{ℕ}
-use mathlib.Core.Path.{◌≡◌, ap₂, ◌∙◌}
+use mathlib.Core.Path.{ap₂, ◌∙◌}
 use borrow.Author.Rules.{rules}
 use Rattle.lookup.proofs.ByteLookup.{both_looked_up}
 use Rattle.lookup_sums.specs.LookupSums.{lookup_denominator}

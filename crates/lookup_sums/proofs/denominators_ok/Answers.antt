@@ -1,14 +1,11 @@
 -- `lookup_sums::denominators_ok` meets its contract. The loop's invariant: nothing is against the places passed. A denominator of zero decides the
 -- answer, and at the end all places have been passed. Assumes nothing.
-use Prim.Native.Nat.{ℕ, ◌-◌, ◌≤◌}
 use mathlib.Core.Path.{◌≡◌, refl, sym, ap, ◌∙◌}
-use mathlib.Core.Bool.{true, not}
-use mathlib.Core.List.{List}
+use mathlib.Core.Bool.{not}
 use native.Mathlib.Omega.{arith}
 use borrow.Author.Rules.{rules}
 use Rattle.sums.specs.RunningSum.{denominators_ok}
 use Rattle.sums.proofs.ZeroDenominators.{denominators_more, denominators_not_ok}
-use Rattle.lookup_sums.specs.LookupSums.{cascade_summand}
 use Rattle.lookup_sums.proofs.Sums.{place_ok}
 use Rattle.lookup_sums.proofs.denominators_ok.Goals as goal
 

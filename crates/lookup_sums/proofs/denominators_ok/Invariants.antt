@@ -1,14 +1,10 @@
 -- What the loop of `denominators_ok` keeps, and what falls with each turn.
 use Prim.Native.Nat.{ℕ, ◌-◌, ◌≤◌}
-use mathlib.Core.Path.{◌≡◌, refl, sym, ap, ◌∙◌}
-use mathlib.Core.Bool.{true, not}
+use mathlib.Core.Path.{◌≡◌}
+use mathlib.Core.Bool.{true}
 use mathlib.Core.List.{List}
-use native.Mathlib.Omega.{arith}
-use borrow.Author.Rules.{rules}
 use Rattle.sums.specs.RunningSum.{denominators_ok}
-use Rattle.sums.proofs.ZeroDenominators.{denominators_more, denominators_not_ok}
 use Rattle.lookup_sums.specs.LookupSums.{cascade_summand}
-use Rattle.lookup_sums.proofs.Sums.{place_ok}
 use Rattle.lookup_sums.proofs.denominators_ok.Given as goal
 
 abbrev pub invariant-loop-judged : goal.invariant-loop-judged

@@ -1,9 +1,6 @@
 -- `lookup_sums::sum_places` meets its contract: each way out has settled the tests up to there. Assumes nothing.
-use mathlib.Core.Path.{◌≡◌, sym, ap, ◌∙◌}
-use native.Mathlib.Omega.{arith}
+use mathlib.Core.Path.{sym, ap, ◌∙◌}
 use lib.Seq.{length-take-le}
-use borrow.Author.Rules.{rules}
-use borrow.Author.Tests.{not-true, not-false}
 use Rattle.words.specs.Answers.{done}
 use Rattle.words.proofs.Outcomes.{leaves_done, leaves_declined}
 use Rattle.xfield.specs.Extension.{Ext}

@@ -1,10 +1,8 @@
 -- `lookup_sums::write_sums` meets its contract. The loop's invariant: `sum` is the sum of the places passed, and the words of their sums stand in
 -- front of the aux words, which are as many as at first. Assumes nothing.
-use Prim.Native.Nat.{◌-◌, ◌≤◌}
 use mathlib.Core.Path.{◌≡◌, refl, ap, ◌∙◌}
 use native.Mathlib.Omega.{arith}
 use borrow.Author.Rules.{rules}
-use lib.ListN.{length}
 use lib.Seq.{sets}
 use Rattle.xfield.specs.XFieldElements.{ext_of}
 use Rattle.sums.specs.RunningSum.{add_summand, running_sum, sum_words}

@@ -1,16 +1,11 @@
 -- What the loop of `write_sums` keeps, and what falls with each turn.
 use Prim.Native.Nat.{◌-◌, ◌≤◌}
-use mathlib.Core.Path.{◌≡◌, refl, ap, ◌∙◌}
-use native.Mathlib.Omega.{arith}
-use borrow.Author.Rules.{rules}
+use mathlib.Core.Path.{◌≡◌}
 use lib.ListN.{length}
 use lib.Seq.{sets}
 use Rattle.xfield.specs.XFieldElements.{ext_of}
-use Rattle.sums.specs.RunningSum.{add_summand, running_sum, sum_words}
-use Rattle.sums.proofs.RunningSums.{sum_turn}
-use Rattle.sums.proofs.SumWords.{words_turn}
+use Rattle.sums.specs.RunningSum.{running_sum, sum_words}
 use Rattle.lookup_sums.specs.LookupSums.{cascade_summand}
-use Rattle.lookup_sums.proofs.Sums.{place_summand}
 use Rattle.lookup_sums.proofs.write_sums.Given as goal
 
 abbrev pub invariant-loop-written : goal.invariant-loop-written

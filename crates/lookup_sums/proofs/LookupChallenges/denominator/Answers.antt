@@ -1,6 +1,4 @@
 -- `lookup_sums::LookupChallenges::denominator` meets its contract: the sum is made in the definition's order. Assumes nothing.
-use mathlib.Core.Path.{refl}
-use borrow.Author.Rules.{rules}
 use Rattle.lookup_sums.specs.LookupSums.{lookup_denominator}
 use Rattle.lookup_sums.proofs.LookupChallenges.denominator.Goals as goal
 

@@ -1,6 +1,4 @@
 -- `lookup_sums::LookupChallenges::from_words` meets its contract: element i of the words is challenge i. Assumes nothing.
-use mathlib.Core.Path.{refl}
-use borrow.Author.Rules.{rules}
 use Rattle.lookup_sums.specs.LookupSums.{lookup_challenges_of}
 use Rattle.lookup_sums.proofs.LookupChallenges.from_words.Goals as goal
 
