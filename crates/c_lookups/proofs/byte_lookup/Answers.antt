@@ -3,7 +3,6 @@ use Prim.Native.Nat.{ℕ}
 use mathlib.Core.Path.{ap}
 use mathlib.Core.List.{[], ◌∷◌}
 use native.Mathlib.Omega.{arith}
-use borrow.Author.Rules.{rules}
 use Rattle.words.specs.Answers.{done}
 use Rattle.c_answers.proofs.Exporting.{short, work_done}
 use Rattle.c_lookups.proofs.byte_lookup.Goals as goal

@@ -1,7 +1,6 @@
 -- `c_lookups::look_up` meets its contract: `answers` is too short, or the recording is done, with the places used, or refused. Assumes nothing.
 use mathlib.Core.Path.{sym, ap, ◌∙◌}
 use native.Mathlib.Omega.{arith}
-use borrow.Author.Rules.{rules}
 use Rattle.words.specs.Answers.{Answer}
 use Rattle.words.specs.Outcomes.{completed_answer}
 use Rattle.c_answers.proofs.Exporting.{short, lent_short, work_done, refused_by_number}
