@@ -1,4 +1,4 @@
--- The claims of the check, over its answer. It answers zero exactly where it does not refuse and every constraint is zero (zero-iff); then
+-- The claims of the check, over its answer. It answers zero exactly where it does not refuse and every constraint is zero (zero_iff); then
 -- each CopyFlag 1 row tells the truth (sound), and the last running sum is the sum over the CopyFlag 1 rows where no denominator of
 -- theirs is zero (sum).
 use Prim.Native.Nat.{ℕ, ◌+◌, ◌-◌, ◌<◌}

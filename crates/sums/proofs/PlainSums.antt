@@ -1,4 +1,4 @@
--- Sums of extension elements over the first n places. They depend on these alone (sumX-cong), and where one place changes, the sum loses what stood
+-- Sums of extension elements over the first n places. They depend on these alone (sum_x_cong), and where one place changes, the sum loses what stood
 -- there and gains what stands there now (sum_one). Assumes nothing.
 use Prim.Native.Nat.{ℕ, zero, suc, ◌<◌}
 use mathlib.Core.Path.{◌≡◌, refl, sym, ap, ◌∙◌}

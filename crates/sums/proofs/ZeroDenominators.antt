@@ -1,6 +1,6 @@
--- The denominators of a running sum. Something is against a summand exactly where it counts and its denominator is zero (not-ok-iff), and
--- something is against the first n exactly where it is against one of them (denominators-ok-iff, some-not-ok, by induction on n). So
--- reason 9 is a zero denominator and nothing else (flat-exactly); where it is not met, each denominator has an inverse (ok-inverse), since
+-- The denominators of a running sum. Something is against a summand exactly where it counts and its denominator is zero (not_ok_iff), and
+-- something is against the first n exactly where it is against one of them (denominators_ok_iff, some_not_ok, by induction on n). So
+-- reason 9 is a zero denominator and nothing else (flat_exactly); where it is not met, each denominator has an inverse (ok_inverse), since
 -- zero alone has none. Assumes nothing.
 use Prim.Native.Nat.{ℕ, zero, suc, ◌+◌, ◌<◌}
 use mathlib.Core.Path.{◌≡◌, refl, sym, ◌∙◌}

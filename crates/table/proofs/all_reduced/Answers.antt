@@ -2,6 +2,7 @@
 -- are left. A word p or more decides the answer, and at the end all words have been passed. Assumes nothing.
 use mathlib.Core.Path.{sym}
 use native.Mathlib.Omega.{arith}
+use borrow.Author.Rules.{rules}
 use borrow.Author.Count.{below_more}
 use borrow.Author.Tests.{not-false}
 use Rattle.table.proofs.Rows.{all_reduced_lem}
@@ -14,7 +15,7 @@ loop-ten-init c = (omega arith, λ k h. absurd (omega arith))
 
 pub loop-ten-preserved : goal.loop-ten-preserved
 loop-ten-preserved c =
-    let more = ten_more _ _ c.loop-ten.invariant.1 (c.are_ten_reduced.ensures (not-false _ c.if-not-are_ten_reduced.false-raw)) in
+    let more = ten_more _ _ c.loop-ten.invariant.1 (c.are_ten_reduced.ensures (not-false c.are_ten_reduced.result (search rules))) in
     (omega arith, λ k h. more k (omega arith))
 
 pub loop-i-init : goal.loop-i-init
