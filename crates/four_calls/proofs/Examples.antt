@@ -1,7 +1,7 @@
 -- The twelve proved examples of document 01, by one theorem (`twelve_examples`). Heights and plain functions are computed; the
 -- Result of a section's first row is the plain function's, as for every admitted entry; the padding is that of the table after fill
 -- and pad. And that a key with multiplicity 0 has no section, computed (`dropped_has_no_section`).
-use Prim.Native.Nat.{ℕ, ◌+◌, ◌-◌, ◌*◌}
+use Prim.Native.Nat.{ℕ, ◌+◌, ◌*◌}
 use mathlib.Core.Path.{◌≡◌, refl, sym, ap, ◌∙◌, subst}
 use mathlib.Core.List.{List, [], ◌∷◌, flat_map}
 use native.Mathlib.Omega.{arith}

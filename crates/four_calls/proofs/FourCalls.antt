@@ -4,8 +4,8 @@
 -- or 15. And (`after_fill`) once fill has answered a height, pad refuses nothing, and extend no more than what it is given besides the table.
 -- The table is the words of a list of honest rows in a chain; so its rows and pairs meet their constraints, the last row is an end row,
 -- and the aux words are running sums.
-use Prim.Native.Nat.{ℕ, zero, suc, ◌+◌, ◌-◌, ◌*◌, ◌<◌}
-use mathlib.Core.Path.{◌≡◌, refl, sym, ap, ◌∙◌, subst}
+use Prim.Native.Nat.{ℕ, suc, ◌+◌, ◌-◌, ◌*◌, ◌<◌}
+use mathlib.Core.Path.{◌≡◌, sym, ap, ◌∙◌, subst}
 use mathlib.Core.Bool.{Bool, true, ◌&&◌, and-eq-true_iff}
 use mathlib.Core.List.{List, [], ◌∷◌}
 use native.Mathlib.Omega.{arith}
@@ -15,8 +15,7 @@ use borrow.Author.Tests.{eq-eqb, ne_eqb}
 use Rattle.xfield.specs.Extension.{Ext, zero_x, HasInverse}
 use Rattle.words.specs.Answers.{done}
 use Rattle.words.specs.declared.Refusal.TheVariants.{Shape, Short, Unreduced}
-use Rattle.words.specs.declared.Judgement.{Judgement}
-use Rattle.words.specs.declared.Judgement.TheVariants.{Fine, Declined}
+use Rattle.words.specs.declared.Judgement.TheVariants.{Fine}
 use Rattle.words.specs.Outcomes.{Outcome}
 use Rattle.words.proofs.Outcomes.{outcome_fine, done_fine}
 use Rattle.words.proofs.Judgements.{or_next, decline_false, decline_not_true}
@@ -47,7 +46,6 @@ use Rattle.four_calls.proofs.Sums.{denominators_of_rows, sum_of_rows, next_sum_z
 use Rattle.sums.proofs.ZeroDenominators.{ok_inverse}
 use Rattle.sums.proofs.SumWords.{sums_length, sums_at}
 use Rattle.extend.proofs.Reasons.{extendable}
-use Rattle.words.proofs.Answers.{declined_not_done}
 use Rattle.four_calls.proofs.Calls.{Filled, fill_answer, fill_done, pad_done, shape_by_length}
 use Rattle.four_calls.proofs.Calls.{final_rows, final_count, padded_is}
 

@@ -1,7 +1,7 @@
 -- THE BOUND IS REACHED (`filled_is_shortest`): on as many rows as fill reports, the four calls make a table that passes, in which each key
 -- that gets a section has a CopyFlag 1 row of its own, and no such table is shorter (row_bound/proofs/RowBound.antt). The CopyFlag 1 rows of what the
 -- calls leave are the first rows of these keys, in list order (`four_calls`): so the own row of the k-th is the k-th of them.
-use Prim.Native.Nat.{ℕ, zero, suc, ◌+◌, ◌<◌}
+use Prim.Native.Nat.{ℕ, zero, suc, ◌<◌}
 use mathlib.Core.Path.{◌≡◌, refl, sym, ap, ◌∙◌, subst}
 use mathlib.Core.Logic.{◌⊎◌, inl, inr}
 use mathlib.Core.Bool.{Bool, true, false, cond}

@@ -1,7 +1,7 @@
 -- An entry's section: its first row is `first_row`, its rows are honest, each two neighbours meet the transition constraints, it ends
 -- at an end row, and it has as many rows as the entry's height. By one induction on the fuel of the definition, down the halving of
 -- the operands: the row below a row is the next one that `Follows` asks for, and its Result carries up to `row_result`.
-use Prim.Native.Nat.{ℕ, zero, suc, ◌+◌, ◌/◌, ◌≤◌, ◌<◌}
+use Prim.Native.Nat.{ℕ, zero, suc, ◌+◌, ◌≤◌, ◌<◌}
 use mathlib.Core.Path.{◌≡◌, refl, sym, ap, ◌∙◌, subst}
 use mathlib.Core.Logic.{◌≢◌, ◌⊎◌, inl, inr}
 use mathlib.Core.Bool.{Bool, true, false}

@@ -1,30 +1,25 @@
 -- The aux words that `extend` makes meet the constraints over the aux column. Each row's element is the sum of the one above and the
 -- row's summand, so of the two transition constraints one is zero by its factor CopyFlag or CopyFlag − 1, and the other since
 -- nothing is added, or since multiplicity / denominator times the denominator is the multiplicity. The words are below p.
-use Prim.Native.Nat.{ℕ, zero, suc, ◌+◌, ◌*◌, ◌<◌}
-use mathlib.Core.Path.{◌≡◌, refl, sym, ap, ap₂, ◌∙◌, subst}
+use Prim.Native.Nat.{ℕ, zero, suc, ◌<◌}
+use mathlib.Core.Path.{◌≡◌, refl, sym, ap, ap₂, ◌∙◌}
 use mathlib.Core.Logic.{◌⊎◌, inl, inr}
-use mathlib.Core.Bool.{Bool, true, false, cond, not, ◌&&◌, ◌||◌, and-eq-true_iff}
+use mathlib.Core.Bool.{Bool, true, false, cond, not, ◌&&◌, ◌||◌}
 use mathlib.Core.List.{List, [], ◌∷◌, ◌++◌}
-use native.Mathlib.Omega.{arith}
-use lib.Dec.{eqb, ltb}
-use lib.ListN.{length, get_or, length-append, get_or-append}
-use lib.Seq.{get_or-append-add}
-use borrow.Author.Tests.{lt-ltb, ltb-true, ltb-false, eq-eqb}
+use lib.Dec.{eqb}
 use Rattle.field.specs.Elements.{p, sub_f}
-use Rattle.xfield.specs.Extension.{Ext, zero_x, lift_x, add_x, sub_x, mul_x, scale_x, HasInverse, Reduced, is_zero_x}
+use Rattle.xfield.specs.Extension.{Ext, zero_x, lift_x, add_x, sub_x, mul_x, scale_x, HasInverse, is_zero_x}
 use Rattle.xfield.specs.Inverses.{inv_x}
-use Rattle.xfield.proofs.Laws.{zero_x_reduced, add_x_reduced, add_x_zero_left, sub_x_self}
+use Rattle.xfield.proofs.Laws.{zero_x_reduced, add_x_zero_left, sub_x_self}
 use Rattle.xfield.proofs.Laws.{lift_x_word, sum_stepped, sum_started}
-use Rattle.table.specs.Columns.{Row, row_at, aux_at, element_at, all_reduced}
+use Rattle.table.specs.Columns.{Row, row_at}
 use Rattle.table.specs.Challenges.{Challenges, challenges_of, row_denominator}
-use Rattle.sums.specs.RunningSum.{Summand, add_summand, running_sum, denominator_ok, denominators_ok}
+use Rattle.sums.specs.RunningSum.{add_summand, running_sum, denominator_ok, denominators_ok}
 use Rattle.sums.specs.LookupSum.{summand_at}
 use Rattle.air.specs.Constraints as Poly
 use Rattle.air.specs.Constraints.{base_value}
 use Rattle.air.proofs.Lists.{SumZero}
 use Rattle.sums.proofs.RunningSums.{adds_nothing, adds_share}
-use Rattle.sums.specs.RunningSum.{element_words, sum_words}
 use Rattle.sums.specs.LookupSum.{summand_of}
 use Rattle.four_calls.specs.FourCalls.{table_rows_to, copy_flag1, none_zero, sum_from}
 use Rattle.check_plain.proofs.Products.{same_zero}

@@ -2,7 +2,7 @@
 -- neighbours meet the transition constraints, the last row is an end row, and the CopyFlag 1 rows are the first rows of the places.
 -- Padding is honest too: it is the row that follows an end row, with Bits 0. Where nothing is filled, the table stands below a
 -- padding row with CI split.
-use Prim.Native.Nat.{ℕ, ◌+◌, ◌<◌}
+use Prim.Native.Nat.{ℕ, ◌<◌}
 use mathlib.Core.Path.{◌≡◌, refl, sym, ap, ap₂, ◌∙◌, subst}
 use mathlib.Core.Logic.{◌≢◌, inl, inr}
 use mathlib.Core.Bool.{cond}

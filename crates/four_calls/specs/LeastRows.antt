@@ -1,7 +1,6 @@
 -- No row is wasted (change request 8): the height that fill reports is the least number of rows of any honest table for the keys of the list that
 -- get a section.
-use Rattle.std.specs.Prelude.{ℕ, max, ◌≤◌, ◌≡◌, List, []}
-use Rattle.words.specs.Answers.{done}
+use Rattle.std.specs.Prelude.{ℕ, max, ◌≤◌, ◌≡◌, List}
 use Rattle.list.specs.Lists.{U32List}
 use Rattle.list.specs.Heights.{section_entries}
 use Rattle.list.specs.Holds.{HeldList, section_list}

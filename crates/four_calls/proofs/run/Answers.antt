@@ -1,12 +1,5 @@
 -- `four_calls::run` meets its contract: each way out is one of `Runs`. Assumes nothing.
-use borrow.Author.Rules.{rules}
 use Rattle.four_calls.proofs.Runs.{fill_refused, pad_refused, extend_refused, checked}
-use Rattle.four_calls.proofs.run.Reads as reads
-use Rattle.four_calls.proofs.run.Lts as lts
-use Rattle.check_table.proofs.check.Reads as check-reads
-use Rattle.extend.proofs.extend.Reads as extend-reads
-use Rattle.fill.proofs.fill.Reads as fill-reads
-use Rattle.fill.proofs.pad.Reads as pad-reads
 use Rattle.four_calls.proofs.run.Goals as goal
 
 pub returns-in-Refused : goal.returns-in-Refused
