@@ -8,8 +8,8 @@ put_zero-requires c = zero_fits c.args.out.now c.requires
 
 pub put_nonzero-requires : goal.put_nonzero-requires
 put_nonzero-requires c =
-    let v = c.verdict-in-Nonzero-1.given.0 in
-    nonzero_fits c.put_name-next.new.out c.put_name-next.result v.0 v.1.0 v.1.1.0 _ _ _ (search rules) c.put_name-next.ensures.place
+    let v = c.in-Nonzero in
+    nonzero_fits c.put_name-next.new.out c.put_name-next.result v.group v.row v.index _ _ _ (search rules) c.put_name-next.ensures.place
 
 pub returns-in-Refused : goal.returns-in-Refused
 returns-in-Refused c = verdict_refused _ _ c.in-Refused.is c.put_reason.ensures

@@ -5,8 +5,7 @@ use Rattle.table_text.proofs.verdict_text.Goals as goal
 
 pub returns-in-Refused : goal.returns-in-Refused
 returns-in-Refused c =
-    let told = c.reason-1.given in
-    extension_refused _ _ _ told.0.0 _ (rw told.1 at c.extend.ensures) c.put_reason.ensures
+    extension_refused _ _ _ c.in-Refused.reason _ (rw c.in-Refused.is at c.extend.ensures) c.put_reason.ensures
 
 pub returns-in-Sum : goal.returns-in-Sum
 returns-in-Sum c =
