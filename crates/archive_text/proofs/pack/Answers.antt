@@ -13,8 +13,7 @@ put_too_many-requires c = let b = too_many_bound c.in-TooMany.rows 16384 in sear
 
 pub pack_rows-requires : goal.pack_rows-requires
 pack_rows-requires c =
-    let told = c.rows-in-Rows-1.given in
-    (search rules, search rules, search rules, rows_most c.end_number-ended.result c.judge_end.result told.0.0 c.judge_end.ensures told.1 c.end_number-ended.ensures.within)
+    (search rules, search rules, search rules, rows_most c.end_number-ended.result c.judge_end.result c.in-Rows.rows c.judge_end.ensures c.in-Rows.is c.end_number-ended.ensures.within)
 
 pub returns-in-Malformed : goal.returns-in-Malformed
 returns-in-Malformed c =

@@ -9,8 +9,7 @@ put_archive-requires c =
 
 pub returns-in-Refused : goal.returns-in-Refused
 returns-in-Refused c =
-    let told = c.reason-1.given in
-    line_packed _ (table_refused _ _ _ told.0.0 _ (rw told.1 at c.extend.ensures)) c.put_reason.ensures
+    line_packed _ (table_refused _ _ _ c.in-Refused.reason _ (rw c.in-Refused.is at c.extend.ensures)) c.put_reason.ensures
 
 pub returns-in-Sum : goal.returns-in-Sum
 returns-in-Sum c = rw (table_archived _ _ _ _ _ (rw c.in-Sum.is at c.extend.ensures)) c.put_archive.ensures

@@ -8,8 +8,7 @@ archived_rows-requires c = restored_count _ _ _ c.requires.0 (rw c.in-Done.is at
 
 pub returns-in-Refused : goal.returns-in-Refused
 returns-in-Refused c =
-    let told = c.reason-1.given in
-    line_unpacked _ (restore_refused _ _ _ c.requires.0 told.0.0 (rw told.1 at c.restore.ensures)) c.put_reason.ensures
+    line_unpacked _ (restore_refused _ _ _ c.requires.0 c.in-Refused.reason (rw c.in-Refused.is at c.restore.ensures)) c.put_reason.ensures
 
 pub returns-in-Done : goal.returns-in-Done
 returns-in-Done c =
