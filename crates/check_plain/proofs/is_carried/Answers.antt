@@ -1,20 +1,13 @@
 -- `check_plain::is_carried` meets its contract: each arm has its opcode. Assumes nothing.
 use mathlib.Core.Path.{◌∙◌}
-use mathlib.Core.Bool.{false≢true}
 use borrow.Author.Tests.{eqb-true}
 use Rattle.table.specs.Layouts.{row_of}
 use Rattle.check_plain.specs.Plain.{Carried}
 use Rattle.check_plain.proofs.is_carried.Goals as goal
 
-pub returns-then-lower-upper : goal.returns-then-lower-upper
-returns-then-lower-upper c = λ e. absurd (false≢true e)
-
 pub returns-then-ci-eq-POW : goal.returns-then-ci-eq-POW
 unfolding row_of
 returns-then-ci-eq-POW c = λ e. Carried.pow c.if-ci-eq-POW.true c.if-lower-upper.false (c.is_pow_carried.ensures e)
-
-pub returns-then-lower-upper-2 : goal.returns-then-lower-upper-2
-returns-then-lower-upper-2 c = λ e. absurd (false≢true e)
 
 pub returns-in-4 : goal.returns-in-4
 unfolding row_of
@@ -36,6 +29,3 @@ pub returns-in-28 : goal.returns-in-28
 unfolding row_of
 returns-in-28 c =
     λ e. Carried.pop_count_lem c.in-28.is c.if-lower-upper-2.false (eqb-true _ _ e ∙ c.add-sum.ensures)
-
-pub returns-in_default : goal.returns-in_default
-returns-in_default c = λ e. absurd (false≢true e)

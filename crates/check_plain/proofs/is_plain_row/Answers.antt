@@ -2,24 +2,11 @@
 -- (proofs/PlainRows.antt). Assumes nothing.
 use borrow.Author.Rules.{rules}
 use mathlib.Core.Path.{sym, ◌∙◌}
-use mathlib.Core.Bool.{false≢true}
 use Rattle.field.specs.Elements.{mul_f}
 use Rattle.air.proofs.Lists.{zero_consistency}
 use Rattle.table.specs.Layouts.{row_of}
 use Rattle.check_plain.proofs.PlainRows.{plain_zero}
 use Rattle.check_plain.proofs.is_plain_row.Goals as goal
-
-pub returns-then-mul-ne1 : goal.returns-then-mul-ne1
-returns-then-mul-ne1 c = λ e. absurd (false≢true e)
-
-pub returns-then-not-is_flagged : goal.returns-then-not-is_flagged
-returns-then-not-is_flagged c = λ e. absurd (false≢true e)
-
-pub returns-then-not-is_inverted : goal.returns-then-not-is_inverted
-returns-then-not-is_inverted c = λ e. absurd (false≢true e)
-
-pub returns-then-not-is_inverted-2 : goal.returns-then-not-is_inverted-2
-returns-then-not-is_inverted-2 c = λ e. absurd (false≢true e)
 
 pub returns : goal.returns
 unfolding row_of

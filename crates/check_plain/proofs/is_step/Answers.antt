@@ -1,20 +1,7 @@
 -- `check_plain::is_step` meets its contract: the tests are the parts of a step. Assumes nothing.
 use borrow.Author.Rules.{rules}
-use mathlib.Core.Bool.{false≢true}
 use Rattle.table.specs.Layouts.{row_of}
 use Rattle.check_plain.proofs.is_step.Goals as goal
-
-pub returns-then-lower-ne0 : goal.returns-then-lower-ne0
-returns-then-lower-ne0 c = λ e. absurd (false≢true e)
-
-pub returns-then-lower-upper : goal.returns-then-lower-upper
-returns-then-lower-upper c = λ e. absurd (false≢true e)
-
-pub returns-then-not-is_counted : goal.returns-then-not-is_counted
-returns-then-not-is_counted c = λ e. absurd (false≢true e)
-
-pub returns-then-lower-upper-2 : goal.returns-then-lower-upper-2
-returns-then-lower-upper-2 c = λ e. absurd (false≢true e)
 
 pub returns : goal.returns
 unfolding row_of
