@@ -3,7 +3,7 @@
 use Prim.Native.Nat.{ℕ, ◌*◌, ◌%◌, ◌≤◌, ◌<◌}
 use mathlib.Core.Path.{◌≡◌, refl, sym, ap, ap₂, ◌∙◌}
 use mathlib.Core.Bool.{true, ◌&&◌, and-eq-true_iff}
-use mathlib.Core.List.{List, [], ◌++◌}
+use mathlib.Core.List.{List, []}
 use native.Mathlib.Omega.{arith}
 use borrow.Author.Tests.{eq-eqb, le-ltb}
 use lib.ListN.{length, get_or, take, drop}
@@ -18,7 +18,7 @@ use Rattle.table.specs.Columns.{main_width, aux_width, row_count, table_shape, a
 use Rattle.air.specs.Check.{check_all}
 use Rattle.archive.specs.Archives.{archive_length, archive_bytes, archived_rows, archived_table, archived_aux}
 use Rattle.archive.specs.Archives.{shapes, archive_reason, archive_all, restore_reason, restore_all, TableAndAux, restored}
-use Rattle.archive.proofs.Reasons.{Shaped, shaped, shapes_told, archivable, archive_fine, Restorable, restorable, restorable_fine}
+use Rattle.archive.proofs.Reasons.{shaped, shapes_told, archivable, archive_fine, Restorable, restorable, restorable_fine}
 use Rattle.archive_trips.specs.ArchiveTrips.{ComesBack, SameArchive}
 use Rattle.archive_trips.proofs.Rearranged.{archive_long, rows_held, held_reduced, table_held, aux_held, rows_length, rows_reduced, count_again, own_bytes}
 

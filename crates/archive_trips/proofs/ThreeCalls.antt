@@ -19,7 +19,7 @@ use Rattle.air.specs.Check.{check_all}
 use Rattle.check_table.specs.declared.Verdict.{Verdict}
 use Rattle.check_table.specs.declared.Verdict.TheVariants.{Refused as CheckRefused}
 use Rattle.check_table.specs.Verdicts.{verdict_answer}
-use Rattle.archive.specs.Archives.{archive_length, archive_bytes, archived_rows, archive_reason, archive_all, restore_all, TableAndAux, table_and_aux}
+use Rattle.archive.specs.Archives.{archive_length, archive_bytes, archive_reason, archive_all, restore_all, TableAndAux, table_and_aux}
 use Rattle.archive.proofs.Reasons.{shaped, shapes_right, archivable, Restorable, restorable}
 use Rattle.archive_trips.specs.ArchiveTrips.{archive_then_restore, IsArchivedThenRestored, check_restored, IsCheckedRestored}
 use Rattle.archive_trips.proofs.Rearranged.{rows_held}

@@ -1,5 +1,5 @@
--- THE LAW of the client's sum: for every list of accepted recordings from a fresh list (client-is-server), for an accepted replay (replay-is-server), and
--- for any calls after which no hold is open (calls-are-server). From a fresh list the sum over the places is (0, 0, 0), and each accepted recording and
+-- THE LAW of the client's sum: for every list of accepted recordings from a fresh list (client_is_server), for an accepted replay (replay_is_server), and
+-- for any calls after which no hold is open (calls_are_server). From a fresh list the sum over the places is (0, 0, 0), and each accepted recording and
 -- confirm adds the inverse of its denominator, as the client does, while a hold and a drop add nothing; the sum over the places is the sum over the first
 -- rows, which is what fill, pad and extend make. The list stays admitted and no hold is open, so fill does not decline; a key that gets a section has a
 -- count, so it was counted, and the denominators of what was counted are not zero: extend does not decline. Assumes nothing.

@@ -1,5 +1,5 @@
--- Entries as a client's requests. The requests in the words of some entries are these entries (each-request), as many as they are (request-count). So
--- where each is admitted and no denominator is zero, the client's call is not declined (client-fine). Assumes nothing.
+-- Entries as a client's requests. The requests in the words of some entries are these entries (each_request), as many as they are (request_count_lem). So
+-- where each is admitted and no denominator is zero, the client's call is not declined (client_fine). Assumes nothing.
 use Prim.Native.Nat.{ℕ, zero, suc, ◌+◌, ◌*◌, ◌%◌, ◌≤◌, ◌<◌}
 use mathlib.Core.Path.{◌≡◌, refl, sym, ap, ◌∙◌}
 use mathlib.Core.Bool.{Bool, true, false, and-eq-true_iff}

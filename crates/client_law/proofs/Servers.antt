@@ -1,6 +1,6 @@
--- The table's end, of an admitted list with no open hold. The first rows of what gets sections are those of the counted places (counted-first-rows), and their
--- sum is that over all places, since a place that is not counted adds nothing (server-sum). Where no denominator of a key that gets a section is zero and
--- what is lent is right, neither fill nor extend declines (fill-fine, extend-fine), and the last sum stands in the last row of aux (last_sum). Assumes nothing.
+-- The table's end, of an admitted list with no open hold. The first rows of what gets sections are those of the counted places (counted_first_rows), and their
+-- sum is that over all places, since a place that is not counted adds nothing (server_sum). Where no denominator of a key that gets a section is zero and
+-- what is lent is right, neither fill nor extend declines (fill_fine, extend_fine), and the last sum stands in the last row of aux (last_sum). Assumes nothing.
 use Prim.Native.Nat.{ℕ, zero, suc, ◌+◌, ◌-◌, ◌≤◌, ◌<◌}
 use mathlib.Core.Path.{◌≡◌, refl, sym, ap, ◌∙◌}
 use mathlib.Core.Bool.{true, not, and-eq-true_iff}

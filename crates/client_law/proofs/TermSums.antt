@@ -1,6 +1,6 @@
 -- The sum of multiplicity × inverse of the denominator over the used places of a list (term_sum). Each accepted recording adds the inverse of its
--- denominator once, whether its key gains one (counted-sum) or is appended (new-sum), and so does the client; so the two sums stay equal over recordings
--- one after the other (recordings-sum). A change of holds alone adds nothing (kept-sum, none-sum). Assumes nothing.
+-- denominator once, whether its key gains one (counted_sum) or is appended (new_sum), and so does the client; so the two sums stay equal over recordings
+-- one after the other (recordings_sum). A change of holds alone adds nothing (kept_sum, none_sum). Assumes nothing.
 use Prim.Native.Nat.{ℕ, ◌+◌}
 use mathlib.Core.Path.{◌≡◌, refl, sym, ap, ◌∙◌}
 use mathlib.Core.List.{List, [], ◌∷◌, ◌++◌, flat_map, append-nil, append_assoc}

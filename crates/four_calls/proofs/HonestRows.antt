@@ -1,5 +1,5 @@
 -- What every filled and every padding row is (HonestRow), and that such a row is a plain one: where an operand is 0, the Result that
--- `row_result` gives is what the opcode asks for. So each of the fifteen polynomials is zero (proofs/PlainRows.antt of plain_rows).
+-- `row_result` gives is what the opcode asks for. So each of the fifteen polynomials is zero (proofs/PlainRows.antt of check_plain).
 use Prim.Native.Nat.{ℕ, ◌-◌, ◌≤◌, ◌<◌}
 use mathlib.Core.Path.{◌≡◌, sym, ap, ◌∙◌}
 use mathlib.Core.Logic.{◌≢◌, ◌⊎◌, inl, inr}

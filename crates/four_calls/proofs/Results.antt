@@ -1,7 +1,7 @@
 -- The Result of each row of a section, in terms of that row alone (row_result): the plain function of its operands, but for lt, 2
 -- where the operands are equal below the first row, and for log_2_floor, Bits more than the logarithm, and −1 where LHS is 0. Ending
--- and carrying lead to it (ending-is, carry-is), since each plain function follows the halving of its operands; and in the first row
--- it is the plain function (first-is).
+-- and carrying lead to it (ending_is, carry_is), since each plain function follows the halving of its operands; and in the first row
+-- it is the plain function (first_is).
 use Prim.Native.Nat.{ℕ, ◌+◌, ◌-◌, ◌*◌, ◌/◌, ◌%◌, ◌≤◌, ◌<◌}
 use mathlib.Core.Path.{◌≡◌, refl, sym, ap, ap₂, ◌∙◌, subst}
 use mathlib.Core.Logic.{◌≢◌, ◌⊎◌, inl, inr}

@@ -1,4 +1,4 @@
--- A recorder whose other makes no calls is on the shared list as on a list of its own (as-alone): each call does there what it does alone, and both recorders'
+-- A recorder whose other makes no calls is on the shared list as on a list of its own (as_alone): each call does there what it does alone, and both recorders'
 -- arrays keep their shape. Assumes nothing.
 use mathlib.Core.Path.{◌≡◌, refl, sym, ap, ap₂, ◌∙◌, subst}
 use mathlib.Core.List.{List, [], ◌∷◌}

@@ -1,5 +1,5 @@
 -- The rows of the counted places of a list, as weights of its used places. The height of what gets sections is the sum of the rows of the counted keys
--- (section-height); none of the denominators of its first rows is zero exactly where the counted keys with one weigh nothing (section-zeros). Assumes nothing.
+-- (section_height); none of the denominators of its first rows is zero exactly where the counted keys with one weigh nothing (section_zeros). Assumes nothing.
 use Prim.Native.Nat.{ℕ, ◌+◌}
 use mathlib.Core.Path.{◌≡◌, refl, sym, ap, ◌∙◌}
 use mathlib.Core.Bool.{Bool, true, false, cond, not, ◌&&◌}

@@ -1,7 +1,7 @@
 -- A shared list as one recorder sees it (S), and the list that its own calls alone make (O): what is kept from call to call (Covers). Every key of O is among
 -- those of S, with the same count and the same holds; the other keys of S have none; S has as many places with keys of O as O has places; and whatever is
--- weighed, the two weigh the same. The order of the keys may differ. Kept where a key that both have is changed on both (both-changed), where it is changed
--- on S and appended on O (changed-and-new), where it is appended on both (both-new), and where the other's keys come to S (covers-longer). O never has more
+-- weighed, the two weigh the same. The order of the keys may differ. Kept where a key that both have is changed on both (both_changed), where it is changed
+-- on S and appended on O (changed_and_new), where it is appended on both (both_new), and where the other's keys come to S (covers_longer). O never has more
 -- places than S (no_more), and fewer where S has a key that O has not (fewer). Assumes nothing.
 use Prim.Native.Nat.{ℕ, ◌+◌, ◌-◌, ◌≤◌, ◌<◌}
 use mathlib.Core.Path.{◌≡◌, sym, ap, ◌∙◌}

@@ -1,5 +1,5 @@
 -- A shared list as a recorder has it (S) and the list of its own calls alone (O), both at the end: the counts of every key are the same (counts_same); one has an
--- open hold exactly where the other has (open-same); the list alone is admitted as the shared one is (alone-admitted). Assumes nothing.
+-- open hold exactly where the other has (open_same); the list alone is admitted as the shared one is (alone_admitted). Assumes nothing.
 use Prim.Native.Nat.{ℕ, zero, suc, ◌<◌}
 use mathlib.Core.Path.{◌≡◌, refl, sym, ◌∙◌, subst}
 use mathlib.Core.Bool.{Bool, true, false, cond}

@@ -1,9 +1,9 @@
 -- Runs of two recorders, computed from the definitions, on lists whose unused places hold other words.
---   shared-order, alone-order, example: the first records A; the second records B and A. The shared list has A before B, the second's own calls alone make B
+--   shared_order, alone_order, example: the first records A; the second records B and A. The shared list has A before B, the second's own calls alone make B
 --   before A, and through the law the second does not notice.
---   literal-shared, literal-alone, literal-not-own: its conditions are needed. The first records A; the second holds B, which is answered 1, and confirms 0, a
+--   literal_shared, literal_alone, literal_not_own: its conditions are needed. The first records A; the second holds B, which is answered 1, and confirms 0, a
 --   number that no call of its own was answered: 16 on the shared list, done alone.
---   full-shared, full-alone: on one place the first records A and the second B: 6 on the shared list, done alone.
+--   full_shared, full_alone: on one place the first records A and the second B: 6 on the shared list, done alone.
 -- Assumes nothing.
 use Prim.Native.Nat.{ℕ}
 use mathlib.Core.Path.{◌≡◌, refl, sym, subst}
@@ -15,7 +15,7 @@ use Rattle.words.specs.declared.Refusal.TheVariants.{ListFull, NoHold}
 use Rattle.isa.specs.Opcodes.{op_lt, op_and, is_opcode}
 use Rattle.isa.specs.declared.U32TableEntry.{U32TableEntry}
 use Rattle.isa.specs.Entries.{entry, judge_as_it_is, judge_entry, admitted}
-use Rattle.list.specs.Lists.{capacity, key_at, multiplicity_at, entry_at, list_shape, count_full}
+use Rattle.list.specs.Lists.{key_at, multiplicity_at, entry_at, list_shape, count_full}
 use Rattle.list.specs.Keys.{same_key, find_from, find_key}
 use Rattle.list.specs.Holds.{HeldList, held_list, hold_at, held_shape}
 use Rattle.list_record.specs.Recording.{place_reason, record_reason, record_with}

@@ -1,4 +1,4 @@
--- A confirm or a drop on the shared list and alone, at two places that have one key (confirm-together, drop-together): its holds and its count are the same
+-- A confirm or a drop on the shared list and alone, at two places that have one key (confirm_together, drop_together): its holds and its count are the same
 -- on both, so both are refused with one number or both change the place alike. Assumes nothing.
 use Prim.Native.Nat.{ℕ, ◌+◌, ◌-◌, ◌<◌}
 use mathlib.Core.Path.{◌≡◌, refl}

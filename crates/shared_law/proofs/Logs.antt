@@ -1,6 +1,6 @@
 -- The positions that a recorder's calls answered on the shared list (S) and alone (O): each pair is of used places that have one key (Good). It stays so
--- where places come into use (good-grown). A position that is among those answered on the shared list has with the one that is taken alone one key
--- (good-at), and two that are one on the shared list are one alone (good-same). Assumes nothing.
+-- where places come into use (good_grown). A position that is among those answered on the shared list has with the one that is taken alone one key
+-- (good_at), and two that are one on the shared list are one alone (good_same). Assumes nothing.
 use Prim.Native.Nat.{ℕ, zero, suc, ◌<◌}
 use mathlib.Core.Path.{◌≡◌, refl, sym, ap, ◌∙◌}
 use mathlib.Core.Bool.{Bool, true, false, ◌||◌}

@@ -1,4 +1,4 @@
--- THE LAW of two recorders (not-noticed). At the end of both runs the lists are judged alike, have one height and one sum, and the same keys are counted; so
+-- THE LAW of two recorders (not_noticed). At the end of both runs the lists are judged alike, have one height and one sum, and the same keys are counted; so
 -- plan, fill, pad, extend and check answer the same. Keys that are not counted get no section, so those that the other recorder brought do not show. Assumes
 -- nothing.
 use Prim.Native.Nat.{ℕ}

@@ -1,4 +1,4 @@
--- A recorder's own call, on the shared list (S) and alone (O), a confirm or a drop at positions of one earlier call (call-together): both tell the same, what
+-- A recorder's own call, on the shared list (S) and alone (O), a confirm or a drop at positions of one earlier call (call_together): both tell the same, what
 -- was kept between the lists is kept, and the positions that they answer have one key. Assumes nothing.
 use Prim.Native.Nat.{ℕ}
 use mathlib.Core.Path.{◌≡◌, refl, ap}

@@ -1,6 +1,6 @@
--- The laws of requests 6 and 2 of a recorder on the shared list, over any calls of both (own-multiplicity, own-calls-are-server). What is true of the places of
+-- The laws of requests 6 and 2 of a recorder on the shared list, over any calls of both (own_multiplicity, own_calls_are_server). What is true of the places of
 -- its list and of what its calls counted stays so by each kind of change that its own calls make (Carried), and where the other's keys come to stand there
--- without count and holds; so it is true after any calls (own-run). Assumes nothing.
+-- without count and holds; so it is true after any calls (own_run). Assumes nothing.
 use Prim.Native.Nat.{ℕ, ◌≤◌, ◌<◌}
 use mathlib.Core.Path.{◌≡◌, refl, sym, ap, ◌∙◌, subst}
 use mathlib.Core.Bool.{true, false, cond}

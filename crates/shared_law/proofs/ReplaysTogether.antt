@@ -1,4 +1,4 @@
--- A replay on the shared list and alone (replay-together): step by step, the entries of a step recorded one after the other (each-together); the first
+-- A replay on the shared list and alone (replay_together): step by step, the entries of a step recorded one after the other (each_together); the first
 -- refused step is the same on both, and so is what the replay answers. Assumes nothing.
 use Prim.Native.Nat.{ℕ, zero, suc, ◌/◌, ◌%◌}
 use mathlib.Core.Path.{◌≡◌, refl, sym, ap, ◌∙◌}

@@ -1,6 +1,6 @@
--- Both runs from beginning to end (runs-together): where a recorder's confirms and drops take positions that its own earlier calls answered, and none of its
+-- Both runs from beginning to end (runs_together): where a recorder's confirms and drops take positions that its own earlier calls answered, and none of its
 -- calls meets "list full" on the shared list, its calls tell the same on both, and what was kept between the lists is kept. One step is the recorder's own
--- call, made on both (own-step), or the other's, which alone is not made (other_step). Assumes nothing.
+-- call, made on both (own_step), or the other's, which alone is not made (other_step). Assumes nothing.
 use Prim.Native.Nat.{ℕ, ◌<◌}
 use mathlib.Core.Path.{◌≡◌, refl, sym, ap, ap₂, ◌∙◌, subst}
 use mathlib.Core.Bool.{Bool, true, false, cond}

@@ -1,7 +1,7 @@
 -- What a run of fill, pad, extend and check answers goes by four things of a list and by lengths: how it is judged, its height, whether none of its first rows'
--- denominators is zero, and the sum over its first rows (same-run). Pad never refuses after fill, and check answers zero where there is a row; where there is
--- none, it is asked of nothing on both. And the verdict that `run` answers is the last of these answers (run-last). Assumes nothing.
-use Prim.Native.Nat.{ℕ, zero, ◌/◌, ◌<◌}
+-- denominators is zero, and the sum over its first rows (same_run). Pad never refuses after fill, and check answers zero where there is a row; where there is
+-- none, it is asked of nothing on both. And the verdict that `run` answers is the last of these answers (run_last). Assumes nothing.
+use Prim.Native.Nat.{ℕ, ◌/◌, ◌<◌}
 use mathlib.Core.Path.{◌≡◌, refl, sym, ap, ap₂, ◌∙◌}
 use mathlib.Core.Bool.{Bool, true, false, cond}
 use mathlib.Core.List.{List, [], ◌∷◌}

@@ -1,6 +1,6 @@
 -- A recorder's call where both recorders' arrays are of the right shape: it is its own call on its own list, and the other's arrays are cleared at the places
--- that have come into use (call-shared). Both stay of the right shape (shared-shaped). No key comes to stand at two used places (call-lasting), and as the other
--- sees it, places without count and holds have come into use (other-spares). Assumes nothing.
+-- that have come into use (call_shared_lem). Both stay of the right shape (shared_shaped). No key comes to stand at two used places (call_lasting), and as the other
+-- sees it, places without count and holds have come into use (other_spares). Assumes nothing.
 use Prim.Native.Nat.{ℕ, ◌+◌, ◌-◌, ◌≤◌, ◌<◌}
 use mathlib.Core.Path.{◌≡◌, refl, sym, ap, ◌∙◌}
 use mathlib.Core.Bool.{Bool, true, false, and-eq-true_iff}

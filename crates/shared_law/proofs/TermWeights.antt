@@ -1,6 +1,6 @@
 -- The sum of multiplicity × inverse of the denominator over the places of a list goes by weights: each of its three words is a sum of such words modulo p, and
--- of a key without count they are 0. So it is the same for a shared list and the list that it covers (covers-sum), and places without count and holds do not
--- change it (longer-sum). Assumes nothing.
+-- of a key without count they are 0. So it is the same for a shared list and the list that it covers (covers_sum), and places without count and holds do not
+-- change it (longer_sum). Assumes nothing.
 use Prim.Native.Nat.{ℕ, zero, suc, ◌+◌, ◌%◌}
 use mathlib.Core.Path.{◌≡◌, refl, sym, ap, ◌∙◌}
 use native.Mathlib.Nat.{mod-add-mod}

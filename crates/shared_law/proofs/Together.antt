@@ -1,5 +1,5 @@
 -- One call of a recorder on the shared list (S) and on the list that its own calls alone make (O): both are refused with one number, or neither is, and what
--- was kept between the lists is kept (Joined). This page: a recording or a hold (record-together), in all combinations of the ways that it goes on the two.
+-- was kept between the lists is kept (Joined). This page: a recording or a hold (record_together_lem), in all combinations of the ways that it goes on the two.
 -- "List full" enters here alone: where the shared list does not meet it, the other does not, since it has fewer keys. Assumes nothing.
 use Prim.Native.Nat.{ℕ, ◌≤◌, ◌<◌}
 use mathlib.Core.Path.{◌≡◌, refl, sym, ap, ◌∙◌}
@@ -18,7 +18,7 @@ use Rattle.words.specs.declared.Refusal.TheVariants.{CountFull, ListFull}
 use Rattle.words.proofs.Answers.{number_positive}
 use Rattle.isa.specs.declared.U32TableEntry.{U32TableEntry}
 use Rattle.isa.specs.Entries.{judge_entry, admitted}
-use Rattle.list.specs.Lists.{capacity, used}
+use Rattle.list.specs.Lists.{capacity}
 use Rattle.list.specs.Holds.{HeldList, held_shape}
 use Rattle.list.proofs.HeldLists.{HeldShaped, held_shape_fine}
 use Rattle.list_record.specs.Recording.{place_in, known, record_reason, raised, appended, record_with}

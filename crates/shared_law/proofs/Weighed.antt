@@ -1,6 +1,6 @@
 -- The places of a list weighed: the sum over the used places of a weight that goes by count, holds and key. Rows, open holds and the lookup's sum are such
--- weights. What a change or an append does to the sum (changed-weigh, appended-weigh); places that come into use without count and holds add nothing, where
--- nothing weighs nothing (longer-weigh). Assumes nothing.
+-- weights. What a change or an append does to the sum (changed_weigh, appended_weigh); places that come into use without count and holds add nothing, where
+-- nothing weighs nothing (longer_weigh). Assumes nothing.
 use Prim.Native.Nat.{ℕ, ◌+◌, ◌-◌, ◌≤◌, ◌<◌}
 use mathlib.Core.Path.{◌≡◌}
 use native.Mathlib.Nat.{add-sub_of_le}

@@ -82,7 +82,7 @@ pub record Position : Type 0 where
 unfoldable pub noted : Call → (shared alone : Answer) → List Position
 noted c shared alone = map (λ p. record { shared = p; alone = get_or alone.values 0 0 }) (position c shared)
 
--- the position alone of the first call that answered i on the shared list (any other that did has the same: proofs/Runs.antt: one-position)
+-- the position alone of the first call that answered i on the shared list (any other that did has the same: proofs/Runs.antt: one_position)
 unfoldable pub alone_at : List Position → ℕ → ℕ
 alone_at [] i = i
 alone_at (p ∷ ps) i = cond (eqb p.shared i) p.alone (alone_at ps i)

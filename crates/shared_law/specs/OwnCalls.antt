@@ -13,7 +13,7 @@ use Rattle.shared_law.specs.Recorders.{Recorder, SharedList, own, Made, made, ru
 use Rattle.shared_law.specs.Alone.{same}
 
 -- What its own calls count, in their order: accepted recordings and confirms, and the entries of the steps that its replays did. A call on the shared list
--- answers what it answers on the recorder's own (proofs/SharedCalls.antt: shared-call)
+-- answers what it answers on the recorder's own (proofs/SharedCalls.antt: shared_call)
 unfoldable pub own_counted : Recorder → SharedList → List Made → List U32TableEntry
 own_counted r s [] = []
 own_counted r s (m ∷ ms) = cond (same r m.by) (counts (own r s) m.call) [] ++ own_counted r (made s m) ms

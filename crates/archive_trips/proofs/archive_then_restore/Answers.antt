@@ -1,7 +1,6 @@
 -- `archive_trips::archive_then_restore` meets its contract: what was archived is within the bytes, and the law is `comes_back`. Assumes nothing.
-use mathlib.Core.Path.{sym, ◌∙◌}
+use mathlib.Core.Path.{sym}
 use native.Mathlib.Omega.{arith}
-use borrow.Author.Rules.{rules}
 use lib.Seq.{length-take-le}
 use Rattle.archive.proofs.Reasons.{shaped, archivable}
 use Rattle.archive_trips.proofs.TwoCalls.{archive_answered, archived_within, archive_refused, then_restored}

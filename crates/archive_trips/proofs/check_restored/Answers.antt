@@ -1,7 +1,5 @@
 -- `archive_trips::check_restored` meets its contract: the rows that came back are within the arrays, and the law is `checks_alike`. Assumes nothing.
-use mathlib.Core.Path.{sym, ◌∙◌}
-use native.Mathlib.Omega.{arith}
-use borrow.Author.Rules.{rules}
+use mathlib.Core.Path.{sym}
 use lib.Seq.{length-take-le}
 use Rattle.archive_trips.proofs.ThreeCalls.{back_within, trip_refused, then_checked}
 use Rattle.archive_trips.proofs.check_restored.Goals as goal

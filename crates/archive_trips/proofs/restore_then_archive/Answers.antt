@@ -1,7 +1,6 @@
 -- `archive_trips::restore_then_archive` meets its contract: the rows that came back are within the arrays, and the law is `same_archive`. Assumes nothing.
-use mathlib.Core.Path.{sym, ◌∙◌}
+use mathlib.Core.Path.{sym}
 use native.Mathlib.Omega.{arith}
-use borrow.Author.Rules.{rules}
 use lib.Seq.{length-take-le}
 use Rattle.archive_trips.proofs.TwoCalls.{restored_within, restore_refused, then_archived}
 use Rattle.archive_trips.proofs.restore_then_archive.Goals as goal
