@@ -1,37 +1,32 @@
--- The archive that is due for a table's text: where extension is made, archiving its sums is not refused (archive-follows), since they are below p and
+-- The archive that is due for a table's text: where extension is made, archiving its sums is not refused (archive_follows), since they are below p and
 -- three a row, and there is room; and how long the archive is. Assumes nothing.
-use Prim.Native.Nat.{ℕ, ◌+◌, ◌*◌, ◌/◌, ◌≤◌}
+use Prim.Native.Nat.{ℕ, ◌*◌, ◌≤◌}
 use mathlib.Core.Path.{◌≡◌, refl, sym, ap, ◌∙◌}
-use mathlib.Core.Bool.{Bool, true, false, ◌&&◌, and-eq-true_iff}
-use mathlib.Core.List.{List, [], ◌∷◌, ◌++◌, flat_map}
+use mathlib.Core.Bool.{and-eq-true_iff}
+use mathlib.Core.List.{List, [], ◌++◌, flat_map}
 use native.Mathlib.Omega.{arith}
 use borrow.Author.Tests.{eq-eqb}
 use lib.ListN.{length, length-append}
-use lib.Seq.{sets}
 use Rattle.words.specs.Limits.{max_rows}
-use Rattle.words.specs.Answers.{Answer, done, declined}
-use Rattle.words.specs.Outcomes.{Outcome, outcome, Leaves, completed_answer}
+use Rattle.words.specs.Outcomes.{Outcome, Leaves, completed_answer}
 use Rattle.words.specs.Refusals.{refusal_number}
 use Rattle.words.specs.LittleEndian.{le}
 use Rattle.words.specs.declared.Refusal.{Refusal}
-use Rattle.words.specs.declared.Judgement.{Judgement}
-use Rattle.words.specs.declared.Judgement.TheVariants.{Fine, Declined}
+use Rattle.words.specs.declared.Judgement.TheVariants.{Fine}
 use Rattle.words.specs.declared.Completed.TheVariants.{Done, Refused}
 use Rattle.words.proofs.Answers.{declined_not_done}
 use Rattle.words.proofs.Judgements.{or_both, decline_not_fine}
 use Rattle.words.proofs.LittleEndian.{length_le}
 use Rattle.words.proofs.Outcomes.{outcome_fine, done_fine}
 use Rattle.xfield.specs.declared.XFieldElement.{XFieldElement}
-use Rattle.xfield.specs.XFieldElements.{ext_of}
-use Rattle.table.specs.Columns.{main_width, aux_width, row_count, table_shape, aux_shape, all_reduced}
-use Rattle.table.specs.Challenges.{challenges_shape}
-use Rattle.sums.specs.RunningSum.{element_words, sum_words}
-use Rattle.sums.specs.LookupSum.{summand_at, lookup_sum}
+use Rattle.table.specs.Columns.{main_width, aux_width, row_count, table_shape, aux_shape}
+use Rattle.sums.specs.RunningSum.{sum_words}
+use Rattle.sums.specs.LookupSum.{summand_at}
 use Rattle.sums.proofs.SumWords.{sums_length, sums_reduced}
 use Rattle.fill.specs.Extending.{extend_reason, extend_all}
 use Rattle.extend.specs.Extensions.{extended_answer}
 use Rattle.extend.specs.declared.Extended.TheVariants.{Sum, Refused as ExtendedRefused}
-use Rattle.extend.proofs.Reasons.{Extendable, extendable}
+use Rattle.extend.proofs.Reasons.{extendable}
 use Rattle.archive.specs.Archives.{word_width, archive_length, columns, archive_words, archive_bytes, archive_reason, archive_all}
 use Rattle.archive.proofs.Blocks.{flat_append}
 use Rattle.archive.proofs.Columns.{columns_length}

@@ -1,28 +1,26 @@
 -- What is due for an archive: a line where it has too many rows, or where restoring is refused; else its rows, at most as many as are taken
--- (few-rows). Assumes nothing.
+-- (few_rows). Assumes nothing.
 use Prim.Native.Nat.{ℕ, ◌≤◌, ◌<◌}
 use mathlib.Core.Path.{◌≡◌, refl, sym, ◌∙◌}
-use mathlib.Core.Bool.{Bool, true, false, ◌&&◌, and-eq-true_iff}
+use mathlib.Core.Bool.{Bool, true, false, and-eq-true_iff}
 use mathlib.Core.List.{List, []}
 use native.Mathlib.Omega.{arith}
 use borrow.Author.Tests.{le-leb, lt-leb, le-ltb, lt-ltb, leb-true, ltb-true, ltb-false}
 use lib.Dec.{ltb, leb}
 use lib.ListN.{length}
 use Rattle.words.specs.Limits.{max_rows}
-use Rattle.words.specs.LittleEndian.{le_at}
-use Rattle.words.specs.Answers.{done, declined}
 use Rattle.words.specs.Outcomes.{Leaves, completed_answer}
 use Rattle.words.specs.Refusals.{refusal_number}
 use Rattle.words.specs.declared.Refusal.{Refusal}
 use Rattle.words.specs.declared.Completed.TheVariants.{Done, Refused}
 use Rattle.words.specs.declared.Judgement.TheVariants.{Fine}
 use Rattle.words.proofs.Outcomes.{done_fine}
-use Rattle.archive.specs.Archives.{word_width, archived_word, archived_rows, restore_reason, restore_all, table_and_aux}
+use Rattle.archive.specs.Archives.{word_width, archived_rows, restore_reason, restore_all, table_and_aux}
 use Rattle.archive.proofs.Reasons.{restorable}
 use Rattle.text.specs.Lines.{refused_line, too_many_line}
 use Rattle.text.specs.Put.{Put}
 use Rattle.table_text.specs.TableText.{most_rows}
-use Rattle.archive_text.specs.Outputs.{Output, written, refused, output_of}
+use Rattle.archive_text.specs.Outputs.{Output, written, refused}
 use Rattle.archive_text.specs.Unpacking.{printed_rows, too_many_rows, unpack_all}
 use Rattle.archive_text.proofs.Outputs.{output_refused, output_made}
 

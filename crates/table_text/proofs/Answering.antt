@@ -1,12 +1,12 @@
 -- The text that is due after extension, after the check and at the end of a table's text: from what each call's contract says of its answer,
 -- and the text that was put then. Assumes nothing.
-use Prim.Native.Nat.{ℕ, ◌+◌, ◌*◌, ◌-◌, ◌/◌, ◌≤◌}
+use Prim.Native.Nat.{ℕ, ◌+◌, ◌-◌, ◌/◌, ◌≤◌}
 use mathlib.Core.Path.{◌≡◌, refl, ap}
 use mathlib.Core.Bool.{Bool, true, false, cond, ◌&&◌}
-use mathlib.Core.List.{List, [], ◌∷◌, ◌++◌}
+use mathlib.Core.List.{List, [], ◌∷◌}
 use native.Mathlib.Omega.{arith}
 use lib.Dec.{leb}
-use lib.ListN.{length, take, drop}
+use lib.ListN.{length}
 use Rattle.words.specs.Answers.{Answer, done, declined}
 use Rattle.words.specs.Outcomes.{Leaves}
 use Rattle.words.specs.Refusals.{refusal_number}
@@ -21,7 +21,7 @@ use Rattle.extend.specs.Extensions.{extended_answer}
 use Rattle.check_table.specs.declared.Verdict.{Verdict}
 use Rattle.check_table.specs.declared.Verdict.TheVariants.{Zero, Nonzero, Refused as VerdictRefused}
 use Rattle.check_table.specs.Verdicts.{verdict_answer}
-use Rattle.text.specs.Lines.{verdict_line, refused_line, field_line, malformed_line, too_many_line}
+use Rattle.text.specs.Lines.{verdict_line, refused_line, field_line}
 use Rattle.text.specs.Put.{Put}
 use Rattle.text.proofs.Lengths.{field_length, verdict_bound}
 use Rattle.text.proofs.Putting.{put_then}
@@ -29,12 +29,11 @@ use Rattle.transcript.specs.Transcript.{unless_refused}
 use Rattle.transcript.proofs.Steps.{reason_not_zero}
 use Rattle.names.specs.Names.{name_of}
 use Rattle.names.proofs.Named.{name_bound}
-use Rattle.table_text.specs.declared.Reader.{Reader}
 use Rattle.table_text.specs.declared.Stage.{Stage}
 use Rattle.table_text.specs.declared.Stage.TheVariants.{Reading, Malformed, TooMany}
 use Rattle.table_text.specs.declared.Taken.{Taken}
 use Rattle.table_text.specs.declared.Taken.TheVariants.{Rows, Malformed as NotTaken, TooMany as TooManyRows}
-use Rattle.table_text.specs.TableText.{head_numbers, most_rows, max_words, end_number, taken_of, Within, IsFed}
+use Rattle.table_text.specs.TableText.{head_numbers, most_rows, end_number, taken_of, Within, IsFed}
 use Rattle.table_text.specs.Answers.{verdict_lines, verdict_text, taken_text, answer_text, max_answer}
 
 module _ {d d1 : List ℕ} {r : ℕ} where

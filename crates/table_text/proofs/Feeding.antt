@@ -1,6 +1,6 @@
 -- What reading leaves, case by case: one number more, one byte more, the end of the text. Assumes nothing.
 use Prim.Native.Nat.{ℕ, ◌+◌, ◌*◌, ◌-◌, ◌/◌, ◌≤◌, ◌<◌}
-use mathlib.Core.Path.{◌≡◌, refl, sym, ap, ◌∙◌}
+use mathlib.Core.Path.{◌≡◌, refl}
 use mathlib.Core.Bool.{Bool, true, false, cond}
 use mathlib.Core.List.{List, [], ◌∷◌, ◌++◌}
 use native.Mathlib.Numerals.{add-one}
@@ -16,7 +16,7 @@ use Rattle.table_text.specs.declared.Reader.{Reader}
 use Rattle.table_text.specs.declared.Stage.{Stage}
 use Rattle.table_text.specs.declared.Stage.TheVariants.{Reading, Malformed, TooMany}
 use Rattle.table_text.specs.declared.Taken.TheVariants.{Rows, Malformed as NotTaken}
-use Rattle.table_text.specs.TableText.{rows_at, head_numbers, most_rows, max_words, Fed, fed, take_number, after_step, feed_byte, feed_all}
+use Rattle.table_text.specs.TableText.{rows_at, head_numbers, most_rows, max_words, Fed, fed, take_number, feed_byte, feed_all}
 use Rattle.table_text.specs.TableText.{end_number, taken_of, Within, IsFed}
 
 -- ---- one number more

@@ -1,7 +1,7 @@
 -- A text whose numbers are those of a table is taken as this table (table_taken): as many rows as its sixteenth number says, and each number at its place among
 -- the words. By induction on the text's bytes. With numbers/proofs/Printed.antt: what is printed is taken. Assumes nothing.
 use Prim.Native.Nat.{ℕ, suc, ◌+◌, ◌*◌, ◌-◌, ◌/◌, ◌≤◌, ◌<◌}
-use mathlib.Core.Path.{◌≡◌, refl, sym, ap, ◌∙◌}
+use mathlib.Core.Path.{◌≡◌, refl, ap, ◌∙◌}
 use mathlib.Core.Bool.{Bool, true, false, cond}
 use mathlib.Core.List.{List, [], ◌∷◌}
 use native.Mathlib.Numerals.{add-one}

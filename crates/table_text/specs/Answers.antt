@@ -5,7 +5,7 @@ use Rattle.fill.specs.Extending.{extend_all}
 use Rattle.text.specs.Lines.{verdict_line, field_line, malformed_line, too_many_line}
 use Rattle.transcript.specs.Transcript.{unless_refused}
 use Rattle.names.specs.Names.{name_of}
-use Rattle.table_text.specs.TableText.{rows_at, head_numbers, most_rows, Fed, start_stage, feed_all, end_number, taken_of}
+use Rattle.table_text.specs.TableText.{rows_at, head_numbers, most_rows, start_stage, feed_all, end_number, taken_of}
 use Rattle.table_text.specs.declared.Stage.{Stage}
 use Rattle.table_text.specs.declared.Taken.{Taken}
 use Rattle.table_text.specs.declared.Taken.TheVariants.{Rows, Malformed, TooMany}

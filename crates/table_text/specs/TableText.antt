@@ -1,6 +1,6 @@
 -- The text of a table: fifteen challenge words, the number of rows, and ten words a row, as numbers (crate numbers). It is read byte by byte;
 -- what speaks against it first counts.
-use Rattle.std.specs.Prelude.{ℕ, ◌+◌, ◌*◌, ◌-◌, ◌/◌, ◌≤◌, ◌≡◌, Bool, cond, ◌&&◌, List, [], ◌∷◌, eqb, ltb, leb, length, set}
+use Rattle.std.specs.Prelude.{ℕ, ◌+◌, ◌*◌, ◌-◌, ◌/◌, ◌≤◌, ◌≡◌, cond, ◌&&◌, List, [], ◌∷◌, eqb, ltb, leb, set}
 use Rattle.numbers.specs.Numbers.{start_place, step_of}
 use Rattle.numbers.specs.declared.Place.{Place}
 use Rattle.numbers.specs.declared.Step.{Step}

@@ -1,4 +1,4 @@
--- No text is longer than max_text (transcript-fits), whatever the input. A refusal is one line; else there are at most 512 rows, three
+-- No text is longer than max_text (transcript_fits), whatever the input. A refusal is one line; else there are at most 512 rows, three
 -- words of a sum and six values of a verdict. Assumes nothing.
 use Prim.Native.Nat.{ℕ, zero, suc, ◌+◌, ◌*◌, ◌≤◌}
 use mathlib.Core.Path.{◌≡◌, refl}

@@ -26,7 +26,7 @@ use Rattle.transcript.specs.declared.Transcribed.{Transcribed}
 use Rattle.transcript.specs.declared.Transcribed.TheVariants.{Length, Refused}
 
 -- ---- limits of the program
--- "51,328 bytes become the most input": challenges and a stored list of 2,048 entries (proofs/Limits.antt: max-input); more is refused with 10
+-- "51,328 bytes become the most input": challenges and a stored list of 2,048 entries (proofs/Limits.antt: max_input_lem); more is refused with 10
 abbrev pub max_input : ℕ
 max_input = 51328
 

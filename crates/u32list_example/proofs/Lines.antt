@@ -1,4 +1,4 @@
--- The printed lines of a table that is the words of rows: a line a row (lines-of-words), those of rows one after the other are joined
+-- The printed lines of a table that is the words of rows: a line a row (lines_of_words), those of rows one after the other are joined
 -- (lines_join), and n equal rows have n equal lines (lines_same). By induction on the rows. Assumes nothing.
 use Prim.Native.Nat.{ℕ, zero, suc}
 use mathlib.Core.Path.{◌≡◌, refl, sym, ap, ◌∙◌}

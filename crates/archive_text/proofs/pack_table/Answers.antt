@@ -1,6 +1,5 @@
 -- `archive_text::pack_table` meets its contract: a refusal of extension is the line; else archiving follows.
 use Rattle.archive_text.proofs.Packing.{sums_archived, table_archived, table_refused, line_packed}
-use borrow.Author.Rules.{rules}
 use Rattle.archive_text.proofs.pack_table.Goals as goal
 
 pub put_archive-requires : goal.put_archive-requires

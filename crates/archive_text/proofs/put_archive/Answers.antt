@@ -1,7 +1,6 @@
 -- `archive_text::put_archive` meets its contract: the archive is at the front, and archiving is not refused.
 use Rattle.archive_text.proofs.Packing.{archive_put, archive_made, rows_limit}
 use mathlib.Core.Path.{refl}
-use borrow.Author.Rules.{rules}
 use Rattle.archive_text.proofs.put_archive.Goals as goal
 
 pub archive_length-requires : goal.archive_length-requires

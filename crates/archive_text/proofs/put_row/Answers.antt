@@ -1,6 +1,5 @@
 -- `archive_text::put_row` meets its contract: the words that are read are those of the row and of its sum.
 use borrow.Author.Rules.{rules}
-use native.Mathlib.Omega.{arith}
 use Rattle.table.specs.Columns.{row_at, element_at}
 use Rattle.archive_text.proofs.Rows.{line_bound}
 use Rattle.archive_text.proofs.put_row.Goals as goal

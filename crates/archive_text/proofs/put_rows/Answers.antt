@@ -1,11 +1,7 @@
 -- `archive_text::put_rows` meets its contract. The invariant: the lines of the rows passed have been put.
 use borrow.Author.Rules.{rules}
-use Prim.Native.Nat.{◌-◌, ◌≤◌}
-use mathlib.Core.Path.{◌≡◌, refl}
+use mathlib.Core.Path.{refl}
 use native.Mathlib.Omega.{arith}
-use lib.ListN.{length}
-use Rattle.text.specs.Put.{Put}
-use Rattle.archive_text.specs.Unpacking.{printed_rows}
 use Rattle.archive_text.proofs.Rows.{rows_bound, no_rows, one_row_more, all_rows_lem}
 use Rattle.archive_text.proofs.put_rows.Goals as goal
 

@@ -1,12 +1,9 @@
 -- What the loop of `put_rows` keeps, and what falls with each turn.
-use borrow.Author.Rules.{rules}
 use Prim.Native.Nat.{◌-◌, ◌≤◌}
-use mathlib.Core.Path.{◌≡◌, refl}
-use native.Mathlib.Omega.{arith}
+use mathlib.Core.Path.{◌≡◌}
 use lib.ListN.{length}
 use Rattle.text.specs.Put.{Put}
 use Rattle.archive_text.specs.Unpacking.{printed_rows}
-use Rattle.archive_text.proofs.Rows.{rows_bound, no_rows, one_row_more, all_rows_lem}
 use Rattle.archive_text.proofs.put_rows.Given as goal
 
 abbrev pub invariant-loop-i : goal.invariant-loop-i

@@ -1,6 +1,5 @@
 -- `archive_text::unpack_rows` meets its contract: a refusal of restoring is the line; else the rows are there.
 use Rattle.archive_text.proofs.Unpacking.{restore_refused, restore_done, restored_count, few_rows, line_unpacked, rows_unpacked}
-use borrow.Author.Rules.{rules}
 use Rattle.archive_text.proofs.unpack_rows.Goals as goal
 
 pub archived_rows-requires : goal.archived_rows-requires

@@ -1,10 +1,8 @@
 -- `table_text::feed` meets its contract. The invariant: what is left of the part, read from the stage reached and into the words as they are, makes
 -- what is asked.
 use borrow.Author.Rules.{rules}
-use Prim.Native.Nat.{◌-◌, ◌≤◌}
-use mathlib.Core.Path.{◌≡◌, refl, sym, ap, ◌∙◌}
-use lib.ListN.{length, drop}
-use Rattle.table_text.specs.TableText.{Fed, feed_all, Within, IsFed}
+use mathlib.Core.Path.{refl, sym, ap, ◌∙◌}
+use Rattle.table_text.specs.TableText.{Fed}
 use Rattle.table_text.proofs.Feeding.{feed_more, feed_ends}
 use Rattle.table_text.proofs.feed.Goals as goal
 

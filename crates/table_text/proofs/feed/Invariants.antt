@@ -1,10 +1,8 @@
 -- What the loop of `feed` keeps, and what falls with each turn.
-use borrow.Author.Rules.{rules}
 use Prim.Native.Nat.{◌-◌, ◌≤◌}
-use mathlib.Core.Path.{◌≡◌, refl, sym, ap, ◌∙◌}
+use mathlib.Core.Path.{◌≡◌}
 use lib.ListN.{length, drop}
-use Rattle.table_text.specs.TableText.{Fed, feed_all, Within, IsFed}
-use Rattle.table_text.proofs.Feeding.{feed_more, feed_ends}
+use Rattle.table_text.specs.TableText.{feed_all, Within}
 use Rattle.table_text.proofs.feed.Given as goal
 
 abbrev pub invariant-loop-i : goal.invariant-loop-i

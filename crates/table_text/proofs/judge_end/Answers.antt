@@ -1,6 +1,5 @@
 -- `table_text::judge_end` meets its contract: a case for each stage.
 use Rattle.table_text.proofs.Feeding.{too_few, no_head, all_read}
-use borrow.Author.Rules.{rules}
 use Rattle.table_text.proofs.judge_end.Goals as goal
 
 pub returns-then-reader : goal.returns-then-reader

@@ -1,6 +1,5 @@
 -- `table_text::verdict_text` meets its contract: a refusal is the text; else it is what the check leads to.
 use Rattle.table_text.proofs.Answering.{extension_refused, extension_made}
-use borrow.Author.Rules.{rules}
 use Rattle.table_text.proofs.verdict_text.Goals as goal
 
 pub returns-in-Refused : goal.returns-in-Refused

@@ -1,12 +1,10 @@
 -- `transcript::challenges_in` meets its contract. The invariant: what is to be stored in all is what is left to be stored, from place i on.
-use Prim.Native.Nat.{ℕ, ◌≤◌, ◌-◌, ◌*◌}
-use mathlib.Core.Path.{◌≡◌, refl, sym, ap, ◌∙◌}
+use Prim.Native.Nat.{ℕ}
+use mathlib.Core.Path.{refl, sym, ap, ◌∙◌}
 use mathlib.Core.List.{List, map}
 use borrow.Author.Rules.{rules}
-use lib.ListN.{length, length-set}
+use lib.ListN.{length-set}
 use lib.Seq.{sets}
-use Rattle.words.specs.LittleEndian.{le_at}
-use Rattle.words.specs.Places.{places_from, places}
 use Rattle.words.proofs.Places.{map_turn, places_done}
 use Rattle.table.specs.Challenges.{challenge_words}
 use Rattle.transcript.specs.Transcript.{input_challenges}

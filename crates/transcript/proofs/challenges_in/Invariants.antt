@@ -1,16 +1,12 @@
 -- What the loop of `challenges_in` keeps, and what falls with each turn.
 use Prim.Native.Nat.{ℕ, ◌≤◌, ◌-◌, ◌*◌}
-use mathlib.Core.Path.{◌≡◌, refl, sym, ap, ◌∙◌}
+use mathlib.Core.Path.{◌≡◌}
 use mathlib.Core.List.{List, map}
-use borrow.Author.Rules.{rules}
-use lib.ListN.{length, length-set}
+use lib.ListN.{length}
 use lib.Seq.{sets}
 use Rattle.words.specs.LittleEndian.{le_at}
 use Rattle.words.specs.Places.{places_from, places}
-use Rattle.words.proofs.Places.{map_turn, places_done}
 use Rattle.table.specs.Challenges.{challenge_words}
-use Rattle.transcript.specs.Transcript.{input_challenges}
-use Rattle.transcript.proofs.Steps.{fifteen}
 use Rattle.transcript.proofs.challenges_in.Given as goal
 
 -- the word at a place

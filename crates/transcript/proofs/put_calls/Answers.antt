@@ -1,6 +1,5 @@
 -- `transcript::put_calls` meets its contract: a refusal is the text; else it is what the other three calls lead to.
 use Rattle.transcript.proofs.Steps.{filling_refused, filling_made}
-use borrow.Author.Rules.{rules}
 use Rattle.transcript.proofs.put_calls.Goals as goal
 
 pub returns-in-Refused : goal.returns-in-Refused

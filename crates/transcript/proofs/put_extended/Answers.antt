@@ -1,6 +1,5 @@
 -- `transcript::put_extended` meets its contract: a refusal is the text; else it is what the check leads to.
 use Rattle.transcript.proofs.Steps.{extension_refused, extension_made}
-use borrow.Author.Rules.{rules}
 use Rattle.transcript.proofs.put_extended.Goals as goal
 
 pub returns-in-Refused : goal.returns-in-Refused

@@ -1,6 +1,5 @@
 -- `transcript::put_list` meets its contract: a refusal is the text; else it is the text of the height and the padded height that were planned.
 use Rattle.transcript.proofs.Steps.{plan_refused, plan_made}
-use borrow.Author.Rules.{rules}
 use Rattle.transcript.proofs.put_list.Goals as goal
 
 pub returns-in-Refused : goal.returns-in-Refused

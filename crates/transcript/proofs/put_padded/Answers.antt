@@ -1,6 +1,5 @@
 -- `transcript::put_padded` meets its contract: a refusal is the text; else it is what extension and check lead to.
 use Rattle.transcript.proofs.Steps.{padding_refused, padding_made}
-use borrow.Author.Rules.{rules}
 use Rattle.transcript.proofs.put_padded.Goals as goal
 
 pub returns-in-Refused : goal.returns-in-Refused

@@ -1,6 +1,5 @@
 -- `transcript::put_stored` meets its contract: a refusal is the text; else it is the text of the list that was read.
 use Rattle.transcript.proofs.Steps.{reading_refused, reading_made}
-use borrow.Author.Rules.{rules}
 use Rattle.transcript.proofs.put_stored.Goals as goal
 
 pub returns-in-Refused : goal.returns-in-Refused
