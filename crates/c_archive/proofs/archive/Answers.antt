@@ -1,18 +1,17 @@
 -- `c_archive::archive` meets its contract: the number is that of the answer due. Assumes nothing.
 use mathlib.Core.Path.{sym, ap, ◌∙◌}
-use borrow.Author.Rules.{rules}
 use Rattle.words.specs.Answers.{Answer}
 use Rattle.words.specs.Outcomes.{completed_answer}
 use Rattle.c_archive.proofs.archive.Goals as goal
 
 pub returns-in-Done : goal.returns-in-Done
 returns-in-Done c = record {
-      number = ap (λ (a : Answer). a.number) (ap completed_answer (sym c.in-Done.is) ∙ c.archive.ensures.answer);
-      bytes = c.archive.ensures.left;
-    }
+  number = ap (λ (a : Answer). a.number) (ap completed_answer (sym c.in-Done.is) ∙ c.archive.ensures.answer);
+  bytes = c.archive.ensures.left;
+}
 
 pub returns-in-Refused : goal.returns-in-Refused
 returns-in-Refused c = record {
-      number = c.number.ensures ∙ ap (λ (a : Answer). a.number) (ap completed_answer (sym c.in-Refused.is) ∙ c.archive.ensures.answer);
-      bytes = c.archive.ensures.left;
-    }
+  number = c.number.ensures ∙ ap (λ (a : Answer). a.number) (ap completed_answer (sym c.in-Refused.is) ∙ c.archive.ensures.answer);
+  bytes = c.archive.ensures.left;
+}

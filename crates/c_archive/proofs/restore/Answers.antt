@@ -1,6 +1,5 @@
 -- `c_archive::restore` meets its contract: the number is that of the answer due. Assumes nothing.
 use mathlib.Core.Path.{sym, ap, ◌∙◌}
-use borrow.Author.Rules.{rules}
 use Rattle.words.specs.Answers.{Answer}
 use Rattle.words.specs.Outcomes.{completed_answer}
 use Rattle.archive.specs.Archives.{TableAndAux}

@@ -2,7 +2,6 @@
 -- from the words (Zero.antt). Assumes nothing.
 use mathlib.Core.Path.{sym, ap, ◌∙◌}
 use native.Mathlib.Omega.{arith}
-use borrow.Author.Rules.{rules}
 use lib.ListN.{length-set}
 use Rattle.words.specs.Answers.{Answer}
 use Rattle.check_table.specs.Verdicts.{verdict_answer}
@@ -14,11 +13,11 @@ use Rattle.c_tables.proofs.check.Goals as goal
 
 pub returns-then-answers-lt-CHECK_ANSWERS : goal.returns-then-answers-lt-CHECK_ANSWERS
 returns-then-answers-lt-CHECK_ANSWERS c = let all = clauses _ _ _ _ _ _ (short _ _ _ c.if-answers-lt-CHECK_ANSWERS.true) in record {
-      answers = all.0;
-      zero_iff = all.1.0;
-      sound = all.1.1.0;
-      sum = all.1.1.1;
-    }
+  answers = all.0;
+  zero_iff = all.1.0;
+  sound = all.1.1.0;
+  sum = all.1.1.1;
+}
 
 pub bounds-answers-1 : goal.bounds-answers-1
 bounds-answers-1 c = simp length-set (omega arith)

@@ -1,7 +1,6 @@
 -- `c_tables::client_sum` meets its contract: `answers` is too short, or the sum is answered, or refused. Assumes nothing.
 use mathlib.Core.Path.{sym, ap, ◌∙◌}
 use native.Mathlib.Omega.{arith}
-use borrow.Author.Rules.{rules}
 use lib.ListN.{length-set}
 use Rattle.client_sum.specs.Client.{terminal_answer}
 use Rattle.c_answers.proofs.Exporting.{short, work_done, refused}

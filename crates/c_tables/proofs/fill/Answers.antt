@@ -1,16 +1,15 @@
 -- `c_tables::fill` meets its contract: `answers` is too short, or the table is filled, or the list or table is refused. Assumes nothing.
 use mathlib.Core.Path.{sym, ap, ◌∙◌}
 use native.Mathlib.Omega.{arith}
-use borrow.Author.Rules.{rules}
 use Rattle.fill.specs.Filling.{filled_answer}
 use Rattle.c_answers.proofs.Exporting.{short, lent_short, lent_called, work_done, refused}
 use Rattle.c_tables.proofs.fill.Goals as goal
 
 pub returns-then-answers-lt-FILL_ANSWERS : goal.returns-then-answers-lt-FILL_ANSWERS
 returns-then-answers-lt-FILL_ANSWERS c = record {
-      answers = short _ _ _ c.if-answers-lt-FILL_ANSWERS.true;
-      table = lent_short _ _ _ _ c.if-answers-lt-FILL_ANSWERS.true;
-    }
+  answers = short _ _ _ c.if-answers-lt-FILL_ANSWERS.true;
+  table = lent_short _ _ _ _ c.if-answers-lt-FILL_ANSWERS.true;
+}
 
 pub returns-in-Rows : goal.returns-in-Rows
 returns-in-Rows c =
