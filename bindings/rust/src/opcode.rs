@@ -1,15 +1,15 @@
 use std::fmt;
 
-use crate::{Entry, Refusal};
+use crate::Entry;
 
 /// One of the six instructions. Entries hold opcodes as words, since any word can be offered for recording; this is the type of those that are
 /// admitted.
 ///
 /// ```
-/// use u32_table::{opcodes, Entry, Opcode, Refusal};
+/// use u32_table::{opcodes, Entry, Opcode};
 /// assert_eq!(Opcode::And.entry(3, 1), Entry::new(opcodes::AND, 3, 1));
 /// assert_eq!(Opcode::try_from(14), Ok(Opcode::And));
-/// assert_eq!(Opcode::try_from(5), Err(Refusal::Stranger));
+/// assert_eq!(Opcode::try_from(5), Err(5));
 /// ```
 #[derive(Clone, Copy, Debug, PartialEq, Eq, PartialOrd, Ord, Hash)]
 #[repr(u64)]
@@ -61,23 +61,12 @@ impl From<Opcode> for u64 {
     }
 }
 
-/// The instruction of a word; a word that is none is refused as recording refuses it, with stranger.
-///
-/// ```
-/// use u32_table::{Entry, List, Opcode};
-/// fn name_of(words: &[u64]) -> Result<&'static str, Box<dyn std::error::Error>> {
-///     let word = words.first().ok_or("no word")?;
-///     Ok(Opcode::try_from(*word)?.name())
-/// }
-/// assert_eq!(name_of(&[14]).unwrap(), "and");
-/// assert_eq!(name_of(&[5]).unwrap_err().to_string(), "refused 2 (stranger)");
-/// assert_eq!(Opcode::try_from(5).err(), List::new(1).unwrap().record(Entry::new(5, 0, 0)).err());
-/// ```
+/// The instruction of a word; a word that is none is handed back.
 impl TryFrom<u64> for Opcode {
-    type Error = Refusal;
+    type Error = u64;
 
-    fn try_from(word: u64) -> Result<Opcode, Refusal> {
-        Opcode::ALL.into_iter().find(|opcode| opcode.word() == word).ok_or(Refusal::Stranger)
+    fn try_from(word: u64) -> Result<Opcode, u64> {
+        Opcode::ALL.into_iter().find(|opcode| opcode.word() == word).ok_or(word)
     }
 }
 

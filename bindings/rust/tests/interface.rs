@@ -15,8 +15,7 @@ fn opcodes_and_words_are_recorded_alike() {
         assert_eq!((list.record(opcode.entry(1, 2)), list.record(Entry::new(word, 1, 2))), (Ok(0), Ok(0)));
     }
     for word in (0..100).filter(|word| !opcodes::ALL.contains(word)) {
-        assert_eq!((Opcode::try_from(word), Entry::new(word, 0, 0).instruction()), (Err(Refusal::Stranger), None));
-        assert_eq!(List::new(1).unwrap().record(Entry::new(word, 0, 0)), Err(Refusal::Stranger));
+        assert_eq!((Opcode::try_from(word), Entry::new(word, 0, 0).instruction()), (Err(word), None));
     }
     assert_eq!(Opcode::ALL.map(Opcode::name), ["split", "lt", "log_2_floor", "and", "pop_count", "pow"]);
 }

@@ -1,6 +1,6 @@
 -- Congruence modulo m, for any m: `Cong m a b` says that a and b leave the same remainder. It is a record, so that its laws
 -- take a, b and m as implicit arguments, and a proof is a chain of steps,
---     c-mul c-refl c-mod ⨾ c-eq (mul_assoc x y z) ⨾ c-add h c-refl
+--     c_mul c_refl c_mod ⨾ c_eq (mul_assoc x y z) ⨾ c_add h c_refl
 -- with `.same` at its end for the plain equation of remainders. The laws of products under %, which the library lacks, are here
 -- too. Assumes nothing.
 use Rattle.std.proofs.Common.{◌≡◌, ℕ, zero, suc, ◌+◌, ◌*◌, ◌/◌, ◌%◌, ◌^◌, ◌<◌, sym, refl, ap, ◌∙◌, ap₂, mod-eq_of_lt, mul_assoc, mul_comm, one-mul, pow-suc, mul-zero, div-add-mod', zero-add, mul-one, mul-suc, arith, pow-add}

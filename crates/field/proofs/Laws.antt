@@ -16,14 +16,14 @@ pub use Rattle.field.proofs.RingLaws.{add_f_lt, sub_f_lt, neg_f_lt, mul_f_lt, ad
 pub use Rattle.field.proofs.RingLaws.{add_f_of_red, mul_f_of_red}
 -- order and grouping; mul_f a (add_f b d) ≡ add_f (mul_f a b) (mul_f a d)
 pub use Rattle.field.proofs.RingLaws.{add_f_comm, add_f_assoc, mul_f_comm, mul_f_assoc, mul_f_add_f}
--- ---- inverse-or-zero: inv_f a < p; a % p ≡ 0 → inv_f a ≡ 0; a % p ≢ 0 → mul_f a (inv_f a) ≡ 1; no other word is so (invF-only,
--- invF-by-product); inv_f (a % p) ≡ inv_f a; a % p ≢ 0 → inv_f a ≢ 0; x % 2 ≡ 0 → add_f (inv_f x) (inv_f x) ≡ inv_f (x / 2)
+-- ---- inverse-or-zero: inv_f a < p; a % p ≡ 0 → inv_f a ≡ 0; a % p ≢ 0 → mul_f a (inv_f a) ≡ 1; no other word is so (inv_f_only,
+-- inv_f_by_product); inv_f (a % p) ≡ inv_f a; a % p ≢ 0 → inv_f a ≢ 0; x % 2 ≡ 0 → add_f (inv_f x) (inv_f x) ≡ inv_f (x / 2)
 pub use Rattle.field.proofs.Inverses.{inv_f_lt, inv_f_none, inv_f_product, inv_f_only, inv_f_by_product}
 pub use Rattle.field.proofs.Inverses.{inv_f_of_red, inv_f_not_zero, inv_f_half}
 -- ---- powers: pow_f a e < p; pow_f a 0 ≡ 1; pow_f a 1 ≡ a % p; pow_f a (e + 1) ≡ mul_f (pow_f a e) a;
 -- pow_f a (2 * e) ≡ mul_f (pow_f a e) (pow_f a e); pow_f a (2 * e + 1) ≡ mul_f (mul_f (pow_f a e) (pow_f a e)) a; pow_f (a % p) e ≡ pow_f a e;
 -- pow_f (mul_f a a) e ≡ pow_f a (2 * e).
--- Powers and inverses of numerals are computed: powF-is, invF-computed of proofs/Powers.antt
+-- Powers and inverses of numerals are computed: pow_f_is, inv_f_computed of proofs/Powers.antt
 pub use Rattle.field.proofs.Powers.{pow_f_lt, pow_f_zero, pow_f_one, pow_f_suc, pow_f_double, pow_f_double_suc, pow_f_of_red, pow_f_square}
 
 -- ---- words

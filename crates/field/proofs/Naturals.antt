@@ -1,7 +1,7 @@
 -- The ring solver at plain numbers. 𝔑 has their sums and products as they are:
 --     solve 𝔑 ((var 0 :+ var 1) :* var 0) (var 0 :* var 0 :+ var 1 :* var 0) refl (a ∷ b ∷ []) : (a + b) * a ≡ a * a + b * a
 -- (no differences: at 𝔑, x :- y is x). And congruences modulo p between plain sums and products, by the base elements' instance 𝔹:
---     solve-mod (var 0 :* con (2 ^ 64)) (var 0 :* con (2 ^ 32 - 1)) refl (a ∷ []) : a * 2 ^ 64 % p ≡ a * (2 ^ 32 - 1) % p
+--     solve_mod (var 0 :* con (2 ^ 64)) (var 0 :* con (2 ^ 32 - 1)) refl (a ∷ []) : a * 2 ^ 64 % p ≡ a * (2 ^ 32 - 1) % p
 -- where e₁ :- e₂ stands for e₁ + (p - 1) * e₂ (`val`). Assumes nothing.
 use Rattle.std.proofs.Common.{◌≡◌, ℕ, ◌+◌, ◌-◌, ◌*◌, ◌%◌, List, sym, refl, ap, ◌∙◌}
 use native.Mathlib.Nat

@@ -1,6 +1,6 @@
 -- Powers modulo p. `pow_bits k a e` is a^e modulo p for e of k bits, by square and multiply: antt computes it, where a ^ e at two
 -- large numerals would not end. So a power or an inverse at numerals is shown by `refl`:
---     powF-is 7 4294967295 (lit< tt) refl : pow_f 7 4294967295 ≡ 1753635133440165772
+--     pow_f_is 7 4294967295 (lit< tt) refl : pow_f 7 4294967295 ≡ 1753635133440165772
 -- Assumes nothing.
 use Rattle.std.proofs.Common.{◌≡◌, ℕ, zero, suc, ◌+◌, ◌*◌, ◌/◌, ◌%◌, ◌^◌, ◌<◌, sym, ap, ◌∙◌, mod-lt, mod-eq_of_lt, pow-suc, two-mul, add-one, arith, lit<, pow-add}
 use native.Mathlib.Nat.{pow-zero}

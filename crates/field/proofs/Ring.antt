@@ -1,10 +1,10 @@
 -- A ring solver by reflection. An identity of sums, products and differences is shown by normalising both sides:
 --     solve 𝔹 ((var 0 :- var 1) :* (var 0 :+ var 1)) (var 0 :* var 0 :- var 1 :* var 1) refl (a ∷ b ∷ [])
---         : mulF (sub_f a b) (add_f a b) ≡ sub_f (mulF a a) (mulF b b)
+--         : mul_f (sub_f a b) (add_f a b) ≡ sub_f (mul_f a a) (mul_f b b)
 --     solve 𝔹 (var 0 :- var 1 :+ var 1) (var 0) refl (a ∷ b ∷ []) : add_f (sub_f a b) b ≡ a % p
 -- and one that follows from equations, by multiples of these (`times`) that add up to it:
---     combine 𝔹 neg-one (record { times = con 1; left = var 0 :* (var 0 :- con 1); right = con 0 } ∷ []) (var 0 :* var 0) (var 0) refl
---         (a ∷ []) h : mulF a a ≡ a % p          where h : mulF a (sub_f a 1) ≡ 0
+--     combine 𝔹 neg_one (record { times = con 1; left = var 0 :* (var 0 :- con 1); right = con 0 } ∷ []) (var 0 :* var 0) (var 0) refl
+--         (a ∷ []) h : mul_f a a ≡ a % p          where h : mul_f a (sub_f a 1) ≡ 0
 -- The members of the list after `refl` are what the variables stand for, any terms at all. A side that is a bare variable answers
 -- with `red` of it, at 𝔹 its remainder modulo p.
 --

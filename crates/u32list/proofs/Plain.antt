@@ -1,5 +1,5 @@
--- What `u32list` prints is `plain_text` (prints-plainly): of the calls, only reading and extension refuse, and the check's answer is zero. A list that
--- was read is admitted (list_round_trips: read-list-fine); so the plan and fill do not refuse, and the rest is the claim over the
+-- What `u32list` prints is `plain_text` (prints_plainly): of the calls, only reading and extension refuse, and the check's answer is zero. A list that
+-- was read is admitted (list_round_trips: read_list_fine); so the plan and fill do not refuse, and the rest is the claim over the
 -- four calls (crate four_calls). Assumes nothing.
 use Prim.Native.Nat.{ℕ, ◌*◌, ◌/◌, ◌%◌, ◌≤◌, ◌<◌}
 use mathlib.Core.Path.{◌≡◌, refl, sym, ap, ◌∙◌}

@@ -17,7 +17,7 @@ byte_rows = 256
 abbrev pub max_rows : ℕ
 max_rows = 131072
 
--- "The limit becomes p − 1": no multiplicity is above it. This crate does not know p; lists/proofs/JudgedLists.antt: limit-is
+-- "The limit becomes p − 1": no multiplicity is above it. This crate does not know p; list/proofs/JudgedLists.antt: limit_is
 abbrev pub multiplicity_limit : ℕ
 multiplicity_limit = 18446744069414584320
 

@@ -1,6 +1,6 @@
 -- The laws by which the crates above know extension elements. A caller reads this page from top to bottom and cites it; what
 -- add_x, sub_x, mul_x and their fellows are made of stays shut above the fields. Identities of sums and products alone are the ring
--- solver's (proofs/Ring.antt of the crate field, instance 𝔼 of proofs/RingLawsX.antt, with neg-oneX for `combine`).
+-- solver's (proofs/Ring.antt of the crate field, instance 𝔼 of proofs/RingLawsX.antt, with neg_one_x for `combine`).
 -- Assumes nothing.
 use Prim.Native.Nat.{ℕ, ◌+◌, ◌-◌, ◌%◌, ◌<◌}
 use mathlib.Core.Path.{◌≡◌, refl, sym, ◌∙◌, ap, ap₂, subst}
@@ -32,7 +32,7 @@ pub use Rattle.xfield.proofs.RingLawsX.{sub_x_self, sub_x_zero, sub_x_add_x, add
 -- scale_x k (lift_x v) ≡ lift_x (mul_f k v)
 pub use Rattle.xfield.proofs.RingLawsX.{lift_x_add_f, lift_x_sub_f, lift_x_mul_f, lift_x_mod}
 pub use Rattle.xfield.proofs.RingLawsX.{scale_x_is, scale_x_zero, scale_x_one, scale_x_mul_x, scale_x_lift_x}
--- ---- inverses: has_inverse? decides HasInverse x; InverseOrZeroX x (inv_x x), and no other element is so (invX-only);
+-- ---- inverses: has_inverse? decides HasInverse x; InverseOrZeroX x (inv_x x), and no other element is so (inv_x_only);
 -- Reduced (inv_x x); HasInverse x → mul_x (inv_x x) x ≡ one_x; (HasInverse x → ⊥) → inv_x x ≡ zero_x; HasInverse x → inv_x x ≢ zero_x;
 -- Reduced r → mul_x r x ≡ one_x → r ≡ inv_x x; inv_x (reduce_x x) ≡ inv_x x; HasInverse (reduce_x x) ↔ HasInverse x
 pub use Rattle.xfield.proofs.Inverses.{has_inverse?, inverse_unique}

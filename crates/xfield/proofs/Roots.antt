@@ -1,8 +1,8 @@
 -- X³ − X + 1 has no root modulo p (`no_root`), and so every element but zero has an inverse (`nonzero_has_inverse`).
---   no-root: at a root r, mul_x becomes the product of values (value-mulX), so X to the power 2^k becomes r to that power. Since
+--   no_root: at a root r, mul_x becomes the product of values (value_mul_x), so X to the power 2^k becomes r to that power. Since
 --   2^64 + 1 is p + 2^32 and r^p is r, the element X · X^(2^64) − X · X^(2^32) has the value 0 at r. But it has an inverse, computed
 --   once and checked here, and the value of one is 1.
---   norm-zero: where the norm of (a, b, c) is 0, a quotient of two of its cofactors would be a root, or b / c would be one, or else all
+--   norm_zero: where the norm of (a, b, c) is 0, a quotient of two of its cofactors would be a root, or b / c would be one, or else all
 --   three words are 0.
 -- Assumes nothing.
 use Prim.Native.Nat.{ℕ, zero, suc, ◌*◌, ◌%◌, ◌^◌}
