@@ -2,8 +2,8 @@
 use Rattle.std.proofs.Common.{◌-◌, ◌≤◌}
 use Rattle.u32archive.proofs.print_rows.Given as goal
 
-abbrev pub invariant-loop-PART_ROWS : goal.invariant-loop-PART_ROWS
-invariant-loop-PART_ROWS l = l.from ≤ l.rows
+abbrev pub invariant-loop-from : goal.invariant-loop-from
+invariant-loop-from l = l.from ≤ l.rows
 
-abbrev pub decreases-loop-PART_ROWS : goal.decreases-loop-PART_ROWS
-decreases-loop-PART_ROWS l = l.rows - l.from
+abbrev pub decreases-loop-from : goal.decreases-loop-from
+decreases-loop-from l = l.rows - l.from
