@@ -1,7 +1,6 @@
 -- `c_lookups::cascade_sum` meets its contract: `answers` is too short, or the sums are stored and the last one answered, or refused. Assumes nothing.
 use mathlib.Core.Path.{sym, ap, ◌∙◌}
 use native.Mathlib.Omega.{arith}
-use lib.ListN.{length-set}
 use Rattle.extend.specs.Extensions.{extended_answer}
 use Rattle.c_answers.proofs.Exporting.{short, lent_short, lent_called, work_done, refused}
 use Rattle.c_lookups.proofs.cascade_sum.Goals as goal
@@ -11,9 +10,6 @@ returns-then-answers-lt-SUM_ANSWERS c = record {
   answers = short _ _ _ c.if-answers-lt-SUM_ANSWERS.true;
   aux = lent_short _ _ _ _ c.if-answers-lt-SUM_ANSWERS.true;
 }
-
-pub bounds-answers-1 : goal.bounds-answers-1
-bounds-answers-1 c = simp length-set (omega arith)
 
 pub returns-in-Sum : goal.returns-in-Sum
 returns-in-Sum c =

@@ -2,7 +2,6 @@
 -- from the words (Zero.antt). Assumes nothing.
 use mathlib.Core.Path.{sym, ap, ◌∙◌}
 use native.Mathlib.Omega.{arith}
-use lib.ListN.{length-set}
 use Rattle.words.specs.Answers.{Answer}
 use Rattle.check_table.specs.Verdicts.{verdict_answer}
 use Rattle.check_table.specs.declared.Verdict.{Verdict}
@@ -18,24 +17,6 @@ returns-then-answers-lt-CHECK_ANSWERS c = let all = clauses _ _ _ _ _ _ (short _
   sound = all.1.1.0;
   sum = all.1.1.1;
 }
-
-pub bounds-answers-1 : goal.bounds-answers-1
-bounds-answers-1 c = simp length-set (omega arith)
-
-pub bounds-answers-2 : goal.bounds-answers-2
-bounds-answers-2 c = simp length-set (omega arith)
-
-pub bounds-answers-3 : goal.bounds-answers-3
-bounds-answers-3 c = simp length-set (omega arith)
-
-pub bounds-answers-4 : goal.bounds-answers-4
-bounds-answers-4 c = simp length-set (omega arith)
-
-pub bounds-answers-5 : goal.bounds-answers-5
-bounds-answers-5 c = simp length-set (omega arith)
-
-pub bounds-answers-6 : goal.bounds-answers-6
-bounds-answers-6 c = simp length-set (omega arith)
 
 pub returns-in-Zero : goal.returns-in-Zero
 returns-in-Zero c =

@@ -1,16 +1,12 @@
 -- `c_tables::client_sum` meets its contract: `answers` is too short, or the sum is answered, or refused. Assumes nothing.
 use mathlib.Core.Path.{sym, ap, ◌∙◌}
 use native.Mathlib.Omega.{arith}
-use lib.ListN.{length-set}
 use Rattle.client_sum.specs.Client.{terminal_answer}
 use Rattle.c_answers.proofs.Exporting.{short, work_done, refused}
 use Rattle.c_tables.proofs.client_sum.Goals as goal
 
 pub returns-then-answers-lt-CLIENT_ANSWERS : goal.returns-then-answers-lt-CLIENT_ANSWERS
 returns-then-answers-lt-CLIENT_ANSWERS c = short _ _ _ c.if-answers-lt-CLIENT_ANSWERS.true
-
-pub bounds-answers-1 : goal.bounds-answers-1
-bounds-answers-1 c = simp length-set (omega arith)
 
 pub returns-in-Sum : goal.returns-in-Sum
 returns-in-Sum c =

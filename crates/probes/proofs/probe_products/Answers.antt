@@ -1,7 +1,6 @@
 -- `probes::probe_products` meets its contract. The loop's invariant: the places passed hold what they are to, and no place is lost. Assumes
 -- nothing.
 use Prim.Native.Nat.{ℕ, ◌<◌}
-use mathlib.Core.Path.{refl}
 use native.Mathlib.Omega.{arith}
 use lib.ListN.{length, get_or, length-set}
 use Rattle.field.specs.Elements.{mul_f}
@@ -20,12 +19,6 @@ returns-then-right-out c = let all = declines _ _ _ (right_differs _ _ _ (omega 
   products = all.1;
 }
 
-pub loop-i-init : goal.loop-i-init
-loop-i-init c = (refl, omega arith, λ k h. absurd (omega arith))
-
-pub loop-i-smaller : goal.loop-i-smaller
-loop-i-smaller c = simp length-set (omega arith)
-
 pub loop-i-preserved : goal.loop-i-preserved
 loop-i-preserved c =
     let left = c.args.left.now in
@@ -35,9 +28,6 @@ loop-i-preserved c =
       simp length-set (omega arith),
       turn (λ (k : ℕ). mul_f (get_or left k 0) (get_or right k 0)) c.loop-i.out c.loop-i.i c.mul.result.0 room c.loop-i.invariant.2 c.mul.ensures,
     )
-
-pub shape_of-out : goal.shape_of-out
-shape_of-out c = c.loop-i.invariant.0
 
 pub returns : goal.returns
 returns c = let all =

