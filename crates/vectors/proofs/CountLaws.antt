@@ -1,5 +1,5 @@
 -- What a count leaves: one more at its place, and nothing else past the last kind or place. Assumes nothing.
-use Rattle.std.proofs.Common.{◌≡◌, ℕ, ◌+◌, ◌*◌, ◌%◌, ◌^◌, ◌<◌, ◌≤◌, Bool, true, false, List, get_or, set, sym, refl, true≢false, le-ltb, lt-ltb}
+use Rattle.std.proofs.Common.{◌≡◌, ℕ, ◌+◌, ◌*◌, ◌%◌, ◌^◌, ◌<◌, ◌≤◌, Bool, true, false, not, List, get_or, set, sym, refl, true≢false, le-ltb, lt-ltb}
 use Rattle.vectors.specs.Counts.{counted, answered, tallied}
 
 pub counted_in : (counts : List ℕ) (kind place v : ℕ) → kind < 32 → place < 32 → v ≡ (get_or counts (kind * 32 + place) 0 + 1) % 2 ^ 64
@@ -24,14 +24,14 @@ pub answer_not_counted : (counts : List ℕ) (kind number : ℕ) → 31 ≤ numb
 unfolding answered
 answer_not_counted counts kind number h = rw (le-ltb number 31 h) refl
 
-pub tallied_same : (before after : List ℕ) (kind number : ℕ) (same : Bool) → same ≡ true → after ≡ answered before kind number
+pub tallied_same : (before after : List ℕ) (kind number : ℕ) (same : Bool) → not same ≡ false → after ≡ answered before kind number
     → after ≡ tallied before kind number same
 unfolding tallied
 tallied_same before after kind number true s e = e
-tallied_same before after kind number false s e = absurd (true≢false (sym s))
+tallied_same before after kind number false s e = absurd (true≢false s)
 
-pub tallied_other : (before between after : List ℕ) (kind number : ℕ) (same : Bool) → same ≡ false → between ≡ answered before kind number
+pub tallied_other : (before between after : List ℕ) (kind number : ℕ) (same : Bool) → not same ≡ true → between ≡ answered before kind number
     → after ≡ counted between kind 31 → after ≡ tallied before kind number same
 unfolding tallied
-tallied_other before between after kind number true s e f = absurd (true≢false s)
+tallied_other before between after kind number true s e f = absurd (true≢false (sym s))
 tallied_other before between after kind number false s e f = rw (← e) f
