@@ -15,11 +15,11 @@ returns-then-input-lt-CHALLENGE_BYTES c =
 pub returns-then-input-gt-MAX_INPUT : goal.returns-then-input-gt-MAX_INPUT
 returns-then-input-gt-MAX_INPUT c =
     let all =
-        long_input _ _ c.if-out-lt-MAX_TEXT.false c.if-input-lt-CHALLENGE_BYTES.false c.if-input-gt-MAX_INPUT.true c.put_reason-then-input-gt-MAX_INPUT.ensures in
+    long_input _ _ c.if-out-lt-MAX_TEXT.false c.if-input-lt-CHALLENGE_BYTES.false c.if-input-gt-MAX_INPUT.true c.put_reason-then-input-gt-MAX_INPUT.ensures in
     record { due = all.0; fits = all.1 }
 
 pub returns : goal.returns
 returns c =
     let all =
-        stored_input _ _ c.if-out-lt-MAX_TEXT.false _ c.if-input-lt-CHALLENGE_BYTES.false c.if-input-gt-MAX_INPUT.false c.challenges_in-challenges.ensures c.put_stored.ensures in
+    stored_input _ _ c.if-out-lt-MAX_TEXT.false _ c.if-input-lt-CHALLENGE_BYTES.false c.if-input-gt-MAX_INPUT.false c.challenges_in-challenges.ensures c.put_stored.ensures in
     record { due = all.0; fits = all.1 }
