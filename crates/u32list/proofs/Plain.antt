@@ -1,8 +1,8 @@
 -- What `u32list` prints is `plain_text` (prints_plainly): of the calls, only reading and extension refuse, and the check's answer is zero. A list that
 -- was read is admitted (list_round_trips: read_list_fine); so the plan and fill do not refuse, and the rest is the claim over the
 -- four calls (crate four_calls). Assumes nothing.
-use Prim.Native.Nat.{ℕ, ◌*◌, ◌/◌, ◌%◌, ◌≤◌, ◌<◌}
-use mathlib.Core.Path.{◌≡◌, refl, sym, ap, ◌∙◌}
+use Prim.Native.Nat.{ℕ, ◌*◌, ◌%◌, ◌≤◌}
+use mathlib.Core.Path.{◌≡◌, refl, ap, ◌∙◌}
 use mathlib.Core.Bool.{Bool, true, false, cond}
 use mathlib.Core.List.{List, [], ◌∷◌}
 use native.Mathlib.Omega.{arith}
@@ -10,11 +10,8 @@ use borrow.Author.Tests.{ltb-false, le-ltb, eq-eqb, eqb-true}
 use lib.Dec.{eqb, ltb}
 use lib.ListN.{length, drop, length-replicate}
 use Rattle.words.specs.Limits.{max_rows}
-use Rattle.words.specs.Answers.{Answer, done, declined}
-use Rattle.words.specs.Refusals.{refusal_number, decline_if, or_else}
-use Rattle.words.specs.declared.Refusal.TheVariants.{Shape, Short, Torn}
-use Rattle.words.specs.declared.Judgement.{Judgement}
-use Rattle.words.specs.declared.Judgement.TheVariants.{Fine, Declined}
+use Rattle.words.specs.Answers.{Answer, done}
+use Rattle.words.specs.declared.Judgement.TheVariants.{Fine}
 use Rattle.words.proofs.Outcomes.{outcome_done}
 use Rattle.list.specs.Heights.{list_height}
 use Rattle.list.specs.Holds.{HeldList, section_list, judge_held}
@@ -23,15 +20,13 @@ use Rattle.list_record.proofs.PaddedHeight.{padded_at_least, padded_positive}
 use Rattle.list_stored.specs.Stored.{read_reason, read_all}
 use Rattle.list_round_trips.proofs.RoundTrips.{read_list_fine}
 use Rattle.table.specs.Columns.{main_width, aux_width, row_count, table_shape}
-use Rattle.air.specs.Check.{check_all}
-use Rattle.fill.specs.Filling.{fill_reason, fill_all}
-use Rattle.fill.specs.Padding.{pad_all}
+use Rattle.fill.specs.Filling.{fill_reason}
 use Rattle.fill.specs.Extending.{extend_all}
 use Rattle.four_calls.specs.FourCalls.{padded_table, NoneRefuses}
 use Rattle.four_calls.proofs.Calls.{fill_answer}
 use Rattle.four_calls.proofs.FourCalls.{four_calls, after_fill}
 use Rattle.text.specs.Lines.{refused_line}
-use Rattle.transcript.specs.Transcript.{max_input, max_printed_rows, challenge_bytes, input_challenges, zeros, unused_places, unless_refused, result_text}
+use Rattle.transcript.specs.Transcript.{max_input, max_printed_rows, challenge_bytes, input_challenges, zeros, unused_places, unless_refused}
 use Rattle.transcript.specs.Transcript.{checked_text, extended_text, padded_text, calls_text, height_text, list_text, read_text, transcript_of}
 use Rattle.transcript.proofs.Steps.{text_made}
 use Rattle.u32list.specs.Plain.{plain_table, plain_list, plain_text}
