@@ -1,12 +1,12 @@
-//! Build script of triton-isa, triton-air and triton-vm. The original's files are compiled where they lie, unchanged: each file of
-//! the crate that `checksums` names must have its checksum there. Links to them, and to our stand-ins in the crate's own `src`,
-//! are laid side by side in OUT_DIR/src, so that the modules find each other as they do in the original's folder.
+//! Build script of triton-isa, triton-air and triton-vm. The original's files are compiled unchanged: each file of
+//! the crate that `checksums` names must have its checksum there. Copies of them, and of our stand-ins in the crate's own `src`,
+//! are laid side by side in OUT_DIR/src, so that the modules find each other as they do in the original's folder. They are no links, since
+//! `rt ci` refuses links anywhere in the repository.
 //!
 //! TRITON_SRC: the folder of the original (default: ../shared/docs/src beside the repository).
 //! TRITON_UNCHECKED: if set, checksums are not compared. For `mutate` only.
 use std::env;
 use std::fs;
-use std::os::unix::fs::symlink;
 use std::path::{Path, PathBuf};
 
 fn main() {
@@ -52,9 +52,9 @@ fn main() {
                 path.display()
             ));
         }
-        link(&path, &sources.join(file));
+        lay(&path, &sources.join(file));
     }
-    link_all(&krate.join("src"), &sources);
+    lay_all(&krate.join("src"), &sources);
 
     let root = format!("#[path = {:?}]\nmod root;\n", sources.join("lib.rs"));
     fs::write(out.join("root.rs"), root).unwrap();
@@ -65,18 +65,18 @@ fn fail(message: String) -> ! {
     std::process::exit(1)
 }
 
-fn link(file: &Path, to: &Path) {
+fn lay(file: &Path, to: &Path) {
     fs::create_dir_all(to.parent().unwrap()).unwrap();
-    symlink(file, to).unwrap_or_else(|error| fail(format!("cannot link {}: {error}", to.display())));
+    fs::copy(file, to).unwrap_or_else(|error| fail(format!("cannot copy to {}: {error}", to.display())));
 }
 
 /// Every file in the folder and below.
-fn link_all(folder: &Path, to: &Path) {
+fn lay_all(folder: &Path, to: &Path) {
     println!("cargo::rerun-if-changed={}", folder.display());
     for entry in fs::read_dir(folder).unwrap() {
         let path = entry.unwrap().path();
         let to = to.join(path.file_name().unwrap());
-        if path.is_dir() { link_all(&path, &to) } else { link(&path, &to) }
+        if path.is_dir() { lay_all(&path, &to) } else { lay(&path, &to) }
     }
 }
 
