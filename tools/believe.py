@@ -20,7 +20,7 @@ sys.dont_write_bytecode = True
 ROOT = pathlib.Path(__file__).resolve().parent.parent
 CRATES = ROOT / "crates"
 NAME = r"«[^»]+»|[^\s(){}«»;,]+"
-DECLARATION = re.compile(rf"^( *)((?:abbrev |unfoldable )?)((?:pub )?)((?:record |data )?)({NAME})(?= :| \(| \{{|$)")
+DECLARATION = re.compile(rf"^( *)((?:pattern abbrev |abbrev |unfoldable )?)((?:pub )?)((?:record |data )?)({NAME})(?= :| \(| \{{|$)")
 KEYWORDS = {"use", "ghost", "module", "where", "unfolding", "let", "in", "infixl", "infixr", "infix", "record", "data", "pub", "mod", "with", "λ", "Type"}
 
 

@@ -8,8 +8,7 @@ use mathlib.Core.List.{List, []}
 use native.Mathlib.Omega.{arith}
 use Rattle.words.specs.Answers.{Answer, done}
 use Rattle.words.proofs.Answers.{declined_not_done}
-use Rattle.words.specs.declared.Judgement.{Judgement}
-use Rattle.words.specs.declared.Judgement.TheVariants.{Fine, Declined}
+use Rattle.words.specs.Refusals.{Judgement, Fine, Declined}
 use Rattle.table.specs.Columns.{row_at, row_count}
 use Rattle.sums.specs.LookupSum.{lookup_sum}
 use Rattle.air.specs.Check.{AllZero, initial_at, consistency_at, transition_at, terminal_at, ConstraintsHold, check_reason, first_nonzero, checked_as, check_all}

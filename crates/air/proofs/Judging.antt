@@ -8,7 +8,7 @@ use lib.Dec.{eqb}
 use lib.ListN.{length}
 use borrow.Author.Tests.{eqb-false}
 use Rattle.words.specs.declared.Refusal.TheVariants.{Shape, Short, Unreduced}
-use Rattle.words.specs.declared.Judgement.TheVariants.{Fine}
+use Rattle.words.specs.Refusals.{Fine}
 use Rattle.words.proofs.Judgements.{or_both, decline_fine, decline_not_fine}
 use Rattle.table.specs.Columns.{row_count, aux_width, all_reduced}
 use Rattle.table.specs.Challenges.{challenge_words}

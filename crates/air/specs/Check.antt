@@ -1,9 +1,7 @@
 -- Check (document 01, under that heading): when every constraint of a table is zero, and the answer of the check.
 use Rattle.std.specs.Prelude.{ℕ, zero, suc, ◌+◌, ◌-◌, ◌<◌, ◌≡◌, cond, not, ◌&&◌, List, [], ◌∷◌, eqb}
 use Rattle.words.specs.Answers.{Answer, done, declined}
-use Rattle.words.specs.Refusals.{decline_if, or_else}
-use Rattle.words.specs.declared.Judgement.{Judgement}
-use Rattle.words.specs.declared.Judgement.TheVariants.{Fine, Declined}
+use Rattle.words.specs.Refusals.{decline_if, or_else, Judgement, Fine, Declined}
 use Rattle.words.specs.declared.Refusal.TheVariants.{Shape, Short, Unreduced}
 use Rattle.xfield.specs.Extension.{Ext, zero_x, is_zero_x}
 use Rattle.table.specs.Columns.{row_at, row_count, aux_at, table_shape, aux_shape, all_reduced}

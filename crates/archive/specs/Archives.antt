@@ -7,8 +7,7 @@ use Rattle.words.specs.Limits.{max_rows}
 use Rattle.words.specs.LittleEndian.{le_at, le}
 use Rattle.words.specs.Outcomes.{Outcome, outcome}
 use Rattle.words.specs.Places.{places_from, places}
-use Rattle.words.specs.Refusals.{decline_if, or_else}
-use Rattle.words.specs.declared.Judgement.{Judgement}
+use Rattle.words.specs.Refusals.{decline_if, or_else, Judgement}
 use Rattle.words.specs.declared.Refusal.TheVariants.{Shape, Short, Unreduced, Torn}
 use Rattle.table.specs.Columns.{main_width, aux_width, row_count, table_shape, aux_shape, all_reduced}
 

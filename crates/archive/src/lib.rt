@@ -16,7 +16,7 @@ ghost use Rattle.archive.specs.Archives.{torn as torn_of};
 
 use field::BFieldElement;
 use table::{AuxRow, MainRow};
-use words::{Completed, Judgement, MAX_ROWS, Refusal};
+use words::{MAX_ROWS, Refusal};
 
 // The bytes of a word.
 const WORD_WIDTH: usize = 8;
@@ -33,47 +33,46 @@ pub fn archive_length(rows: usize) -> usize
 fn have_shapes(table: &[u64], aux: &[u64]) -> bool
     ensures { result ≡ (table_shape table.now && aux_shape table.now aux.now) }
 {
-    MainRow::has_shape(table) && aux.len() == AuxRow::WIDTH * (table.len() / MainRow::WIDTH)
+    MainRow::has_shape(table) && AuxRow::has_shape(table, aux)
 }
 
 // Stores column c of rows of so many words each, top to bottom, from byte `at` on.
+#[tactic(auto, using(crate::proofs::Blocks::in_blocks))]
 fn put_column(cells: &[u64], width: usize, rows: usize, c: usize, out: &mut [u8], at: usize)
     requires { (c < width) × (width * rows ≤ length cells.now) × (at + word_width * rows ≤ length out.old) }
     ensures { out.new ≡ sets out.old at (flat_map (le word_width) (column width cells.now rows c)) }
 {
-    let mut i: usize = 0;
-    while i < rows {
+    for i in 0..rows {
         words::put_le(out, at + WORD_WIDTH * i, WORD_WIDTH, cells[width * i + c]);
-        i += 1;
     }
 }
 
 // Stores the columns one after the other from byte `at` on.
+#[tactic(auto, using(crate::proofs::Blocks::block_end))]
 fn put_columns(cells: &[u64], width: usize, rows: usize, out: &mut [u8], at: usize)
     requires { (rows ≤ max_rows) × (width * rows ≤ length cells.now) × (at + word_width * rows * width ≤ length out.old) }
     ensures { out.new ≡ sets out.old at (flat_map (le word_width) (columns width cells.now rows)) }
 {
-    let mut c: usize = 0;
-    while c < width {
+    for c in 0..width {
         put_column(cells, width, rows, c, out, at + WORD_WIDTH * rows * c);
-        c += 1;
     }
 }
 
 // Turns a table and its sums into bytes: the row count, the ten main columns, the three sum columns. It refuses a table or an aux of the wrong
 // shape, bytes too few, and a word p or more.
-pub fn archive(table: &[u64], aux: &[u64], out: &mut [u8]) -> Completed
+#[tactic(auto, using(crate::proofs::Reasons::shaped, crate::proofs::Columns::put_archive), unfolding(crate::specs::Archives::archive_all, crate::specs::Archives::archive_reason, crate::specs::Archives::shapes))]
+pub fn archive(table: &[u64], aux: &[u64], out: &mut [u8]) -> Result<(), Refusal>
     ensures { Leaves (archive_all table.now aux.now out.old) (completed_answer result) out.new }
 {
     if !have_shapes(table, aux) {
-        return Completed::Refused(Refusal::Shape);
+        return Err(Refusal::Shape);
     }
     let rows = table.len() / MainRow::WIDTH;
     if out.len() < archive_length(rows) {
-        return Completed::Refused(Refusal::Short);
+        return Err(Refusal::Short);
     }
     if !table::are_reduced(table, aux) {
-        return Completed::Refused(Refusal::Unreduced);
+        return Err(Refusal::Unreduced);
     }
     words::put_le(out, 0, WORD_WIDTH, rows as u64);
     put_columns(table, MainRow::WIDTH, rows, out, WORD_WIDTH);
@@ -84,10 +83,11 @@ pub fn archive(table: &[u64], aux: &[u64], out: &mut [u8]) -> Completed
         out,
         WORD_WIDTH + WORD_WIDTH * rows * MainRow::WIDTH,
     );
-    Completed::Done
+    Ok(())
 }
 
 // The number of rows that the bytes say they hold.
+#[tactic(auto, unfolding(crate::specs::Archives::archived_word))]
 pub fn archived_rows(bytes: &[u8]) -> usize
     requires { word_width ≤ length bytes.now }
     ensures { result ≡ archived_rows bytes.now }
@@ -96,20 +96,21 @@ pub fn archived_rows(bytes: &[u8]) -> usize
 }
 
 // Reason 10: the number of rows is too large, or the bytes are not as many as it says. It is tested before it is multiplied.
-fn torn(bytes: &[u8]) -> Judgement
+#[tactic(auto, unfolding(crate::specs::Archives::torn))]
+fn torn(bytes: &[u8]) -> Result<(), Refusal>
     ensures { result ≡ torn_of bytes.now }
 {
     if bytes.len() < WORD_WIDTH {
-        return Judgement::Declined(Refusal::Torn);
+        return Err(Refusal::Torn);
     }
     let rows = archived_rows(bytes);
     if MAX_ROWS < rows {
-        return Judgement::Declined(Refusal::Torn);
+        return Err(Refusal::Torn);
     }
     if bytes.len() != archive_length(rows) {
-        return Judgement::Declined(Refusal::Torn);
+        return Err(Refusal::Torn);
     }
-    Judgement::Fine
+    Ok(())
 }
 
 // Every word of the columns is below p.
@@ -118,45 +119,36 @@ fn words_reduced(bytes: &[u8], rows: usize) -> bool
     ensures { result ≡ all_reduced (archived_words bytes.now) }
 {
     let end = 1 + (MainRow::WIDTH + AuxRow::WIDTH) * rows;
-    let mut k: usize = 1;
-    while k < end {
-        if BFieldElement::P <= words::word_at(bytes, WORD_WIDTH * k) {
-            return false;
-        }
-        k += 1;
-    }
-    true
+    (1..end).all(|k| words::word_at(bytes, WORD_WIDTH * k) < BFieldElement::P)
 }
 
 // The first reason against restoring the bytes onto a table and its sums.
-fn judge_restoring(bytes: &[u8], table: &[u64], aux: &[u64]) -> Judgement
+#[tactic(auto, using(crate::proofs::Reasons::whole), unfolding(crate::specs::Archives::restore_reason, crate::specs::Archives::shapes))]
+fn judge_restoring(bytes: &[u8], table: &[u64], aux: &[u64]) -> Result<(), Refusal>
     ensures { result ≡ restore_reason bytes.now table.now aux.now }
 {
     if !have_shapes(table, aux) {
-        return Judgement::Declined(Refusal::Shape);
+        return Err(Refusal::Shape);
     }
-    if let Judgement::Declined(reason) = torn(bytes) {
-        return Judgement::Declined(reason);
-    }
+    torn(bytes)?;
     let rows = archived_rows(bytes);
     if table.len() / MainRow::WIDTH < rows {
-        return Judgement::Declined(Refusal::Short);
+        return Err(Refusal::Short);
     }
     if !words_reduced(bytes, rows) {
-        return Judgement::Declined(Refusal::Unreduced);
+        return Err(Refusal::Unreduced);
     }
-    Judgement::Fine
+    Ok(())
 }
 
 // Stores row i of so many words, whose columns begin at word `from` of the bytes.
+#[tactic(auto, using(crate::proofs::Blocks::in_blocks))]
 fn put_row(bytes: &[u8], from: usize, width: usize, rows: usize, i: usize, to: &mut [u64])
     requires { (i < rows) × (word_width * (from + rows * width) ≤ length bytes.now) × (width * rows ≤ length to.old) }
     ensures { to.new ≡ sets to.old (width * i) (map (λ c. archived_word bytes.now (from + (rows * c + i))) (places width)) }
 {
-    let mut c: usize = 0;
-    while c < width {
+    for c in 0..width {
         to[width * i + c] = words::word_at(bytes, WORD_WIDTH * (from + (rows * c + i)));
-        c += 1;
     }
 }
 
@@ -165,25 +157,20 @@ fn put_rows(bytes: &[u8], from: usize, width: usize, rows: usize, to: &mut [u64]
     requires { (word_width * (from + rows * width) ≤ length bytes.now) × (width * rows ≤ length to.old) }
     ensures { to.new ≡ sets to.old 0 (rows_from bytes.now from width rows) }
 {
-    let mut i: usize = 0;
-    while i < rows {
+    for i in 0..rows {
         put_row(bytes, from, width, rows, i, to);
-        i += 1;
     }
 }
 
 // Gives the table and its sums back. It refuses a destination of the wrong shape, bytes that are no archive, a destination of too few rows, and a word
 // p or more.
-pub fn restore(bytes: &[u8], table: &mut [u64], aux: &mut [u64]) -> Completed
+#[tactic(auto, using(crate::proofs::Reasons::restorable, crate::proofs::Reasons::shaped), unfolding(crate::specs::Archives::restore_all))]
+pub fn restore(bytes: &[u8], table: &mut [u64], aux: &mut [u64]) -> Result<(), Refusal>
     ensures { Leaves (restore_all bytes.now table.old aux.old) (completed_answer result) (table_and_aux table.new aux.new) }
 {
-    match judge_restoring(bytes, table, aux) {
-        Judgement::Declined(reason) => Completed::Refused(reason),
-        Judgement::Fine => {
-            let rows = archived_rows(bytes);
-            put_rows(bytes, 1, MainRow::WIDTH, rows, table);
-            put_rows(bytes, 1 + rows * MainRow::WIDTH, AuxRow::WIDTH, rows, aux);
-            Completed::Done
-        }
-    }
+    judge_restoring(bytes, table, aux)?;
+    let rows = archived_rows(bytes);
+    put_rows(bytes, 1, MainRow::WIDTH, rows, table);
+    put_rows(bytes, 1 + rows * MainRow::WIDTH, AuxRow::WIDTH, rows, aux);
+    Ok(())
 }

@@ -2,4 +2,3 @@ pub mod Rows
 pub mod Outputs
 pub mod Packing
 pub mod Unpacking
-pub mod Fits

@@ -1,25 +1,51 @@
 -- Printed rows: how long their lines can be, that parts of them are the whole (rows_join), and a turn of the loop that puts them. Assumes nothing.
-use Prim.Native.Nat.{ℕ, zero, suc, ◌+◌, ◌*◌, ◌≤◌}
-use mathlib.Core.Path.{◌≡◌}
-use mathlib.Core.List.{List, ◌∷◌, ◌++◌, append-nil, append_assoc}
+use Prim.Native.Nat.{ℕ, zero, suc, ◌+◌, ◌-◌, ◌*◌, ◌≤◌}
+use mathlib.Core.Path.{◌≡◌, sym, ap, ◌∙◌}
+use mathlib.Core.List.{List, [], ◌∷◌, ◌++◌, append-nil, append_assoc}
 use native.Mathlib.Nat.{add-zero, add-suc}
 use native.Mathlib.Numerals.{add-one}
 use native.Mathlib.Omega.{arith}
-use lib.ListN.{length, length-append}
+use lib.ListN.{length, get_or, take, drop, length-append}
+use lib.Seq.{take_at, drop_at}
+use borrow.Rule.Slice.PartMut.{put_mid}
+use Rattle.transcript.proofs.Rows.{words_at, part_words, row_words_lem}
 use Rattle.xfield.specs.Extension.{Ext}
-use Rattle.table.specs.Columns.{Row, row_at, aux_at}
+use Rattle.table.specs.Columns.{Row, row_at, aux_at, element_at, main_width}
 use Rattle.table.specs.RowWords.{row_words}
 use Rattle.sums.specs.RunningSum.{element_words}
 use Rattle.text.specs.Lines.{row_line}
-use Rattle.text.specs.Put.{Put}
+use Rattle.text.specs.declared.Text.{Text}
+use Rattle.text.specs.Put.{HasRoom, Adds}
 use Rattle.text.proofs.Lengths.{row_bound}
-use Rattle.text.proofs.Putting.{put_none, put_then}
+use Rattle.text.proofs.Adding.{adds_none, adds_then}
 use Rattle.archive_text.specs.Unpacking.{printed_row, printed_rows, max_row_line}
 
 pub thirteen_bound : (r : Row) (x : Ext) → length (row_line (row_words r ++ element_words x)) ≤ max_row_line
 thirteen_bound r x =
     row_bound r.copy_flag
     (r.bits ∷ r.bits_minus33_inv ∷ r.ci ∷ r.lhs ∷ r.lhs_inv ∷ r.rhs ∷ r.rhs_inv ∷ r.result ∷ r.lookup_multiplicity ∷ element_words x)
+
+-- the ten words of a row and the three of its sum, one after the other
+module _ (table aux : List ℕ) (i : ℕ) (row : main_width * i + main_width ≤ length table) (sum : 3 * i + 3 ≤ length aux) where
+  sum_words_lem : take (3 * i + 3 - 3 * i) (drop (3 * i) aux) ≡ element_words (aux_at aux i)
+  unfolding element_at
+  sum_words_lem =
+      let e : 3 * i + 3 - 3 * i ≡ 3 = omega arith in
+      rw e
+      (ap (λ (j : ℕ). take 3 (drop j aux)) (sym (add-zero (3 * i)))
+      ∙ part_words aux (3 * i) 0 3 (omega arith)
+      ∙ ap (λ (j : ℕ). get_or aux j 0 ∷ words_at aux (3 * i) 1 2) (add-zero (3 * i)))
+
+  -- thirteen words, the first ten written over and then the last three
+  pub words_copied : {ten three : List ℕ}
+      → ten ≡ take (main_width * i + main_width - main_width * i) (drop (main_width * i) table)
+      → three ≡ take (3 * i + 3 - 3 * i) (drop (3 * i) aux)
+      → put_mid main_width 3 (ten ++ (0 ∷ 0 ∷ 0 ∷ [])) three ≡ printed_row table aux i
+  words_copied {ten} {three} e f =
+      let t : ten ≡ row_words (row_at table i) = e ∙ row_words_lem table i row in
+      let l : length ten ≡ main_width = ap length t in
+      rw (take_at ten (0 ∷ 0 ∷ 0 ∷ []) main_width l, drop_at ten (0 ∷ 0 ∷ 0 ∷ []) main_width l, append-nil)
+      (rw (t, f ∙ sum_words_lem))
 
 module _ (table aux : List ℕ) where
   pub line_bound : (i : ℕ) → length (row_line (printed_row table aux i)) ≤ max_row_line
@@ -40,15 +66,11 @@ module _ (table aux : List ℕ) where
       rw (add-suc n m, e, rows_join from n m, append_assoc)
 
   -- ---- the loop
-  pub no_rows : (d : List ℕ) (from : ℕ) → Put d 0 (printed_rows table aux from 0) d 0
+  pub no_rows : (t : Text) (from : ℕ) → HasRoom t 0 → Adds t (printed_rows table aux from 0) t
   unfolding printed_rows
-  no_rows d from = put_none d 0 (omega arith)
+  no_rows t from h = adds_none t h
 
-  pub one_row_more : (from i : ℕ) {d d1 d2 : List ℕ} {a1 a2 : ℕ} → Put d 0 (printed_rows table aux from i) d1 a1
-      → Put d1 a1 (row_line (printed_row table aux (from + i))) d2 a2 → Put d 0 (printed_rows table aux from (i + 1)) d2 a2
+  pub one_row_more : (from i : ℕ) {old mid new : Text} → Adds old (printed_rows table aux from i) mid
+      → Adds mid (row_line (printed_row table aux (from + i))) new → Adds old (printed_rows table aux from (i + 1)) new
   unfolding printed_rows
-  one_row_more from i p q = rw add-one (put_then p q)
-
-  pub all_rows_lem : (from i n : ℕ) {d d1 : List ℕ} {a1 : ℕ} → i ≤ n → n ≤ i → Put d 0 (printed_rows table aux from i) d1 a1
-      → Put d 0 (printed_rows table aux from n) d1 a1
-  all_rows_lem from i n h g p = let e : i ≡ n = omega arith in rw e at p
+  one_row_more from i p q = rw add-one (adds_then p q)

@@ -1,7 +1,12 @@
 -- What `u32archive` writes: "A refusal goes to standard error, standard output stays empty."
 use Rattle.std.specs.Prelude.{ℕ, cond, List, [], eqb}
 use Rattle.words.specs.Answers.{Answer}
-use Rattle.text.specs.Lines.{refused_line}
+use Rattle.words.specs.Refusals.{refusal_number}
+use Rattle.text.specs.Lines.{malformed_line, too_many_line, refused_line}
+use Rattle.numbers.specs.declared.Fault.TheVariants.{Malformed, TooMany}
+use Rattle.table_text.specs.TableText.{most_rows}
+use Rattle.archive_text.specs.declared.Fault.{Fault}
+use Rattle.archive_text.specs.declared.Fault.TheVariants.{Taken, Refused}
 
 -- the bytes of standard output, and those of standard error
 pub record Output : Type 0 where
@@ -19,3 +24,9 @@ refused line = record { out = []; error = line }
 -- the line of a call that is refused, or else what it leads to
 unfoldable pub output_of : Answer → Output → Output
 output_of answer output = cond (eqb answer.number 0) output (refused (refused_line answer.number))
+
+-- the line that says why there is nothing
+abbrev pub fault_line : Fault → List ℕ
+fault_line (Taken (Malformed line)) = malformed_line line
+fault_line (Taken (TooMany rows)) = too_many_line rows most_rows
+fault_line (Refused reason) = refused_line (refusal_number reason)

@@ -1,5 +1,5 @@
 -- `u32archive unpack` "prints the rows as `u32list` does, each followed by its three sum words".
-use Rattle.std.specs.Prelude.{ℕ, zero, suc, ◌+◌, ◌≤◌, ◌≡◌, Bool, cond, ◌&&◌, List, [], ◌++◌, ltb, leb, length}
+use Rattle.std.specs.Prelude.{ℕ, zero, suc, ◌+◌, ◌≤◌, ◌≡◌, Bool, cond, ◌&&◌, List, [], ◌++◌, ltb, leb, length, Result, Ok, Err}
 use Rattle.words.specs.Limits.{max_rows}
 use Rattle.table.specs.Columns.{row_at, aux_at}
 use Rattle.table.specs.RowWords.{row_words}
@@ -8,9 +8,8 @@ use Rattle.archive.specs.Archives.{word_width, archived_rows, restore_all}
 use Rattle.text.specs.Lines.{row_line, too_many_line}
 use Rattle.text.specs.Put.{Put}
 use Rattle.table_text.specs.TableText.{most_rows}
-use Rattle.archive_text.specs.declared.Unpacked.{Unpacked}
-use Rattle.archive_text.specs.declared.Unpacked.TheVariants.{Rows, Line}
-use Rattle.archive_text.specs.Outputs.{Output, written, refused, output_of}
+use Rattle.archive_text.specs.declared.Fault.{Fault}
+use Rattle.archive_text.specs.Outputs.{Output, written, refused, output_of, fault_line}
 
 -- the words of row i, then those of its sum
 abbrev pub printed_row : (table aux : List ℕ) → ℕ → List ℕ
@@ -37,7 +36,12 @@ unpack_all archive table aux =
 abbrev pub max_row_line : ℕ
 max_row_line = 273
 
+-- rows to print, as many as are taken at most, or why there are none
+abbrev pub IsRestored : Output → (table aux : List ℕ) → Result ℕ Fault → Type 0
+IsRestored due table aux (Ok n) = (due ≡ written (printed_rows table aux 0 n)) × (n ≤ most_rows)
+IsRestored due table aux (Err fault) = due ≡ refused (fault_line fault)
+
 -- what the function that unpacks leaves: rows to print, as many as are taken at most, or a line at the front of `out`
-abbrev pub IsUnpacked : Output → (table aux before after : List ℕ) → Unpacked → Type 0
-IsUnpacked due table aux before after (Rows n) = (due ≡ written (printed_rows table aux 0 n)) × (n ≤ most_rows)
-IsUnpacked due table aux before after (Line n) = (due.out ≡ []) × Put before 0 due.error after n
+abbrev pub IsUnpacked : Output → (table aux before after : List ℕ) → Result ℕ ℕ → Type 0
+IsUnpacked due table aux before after (Ok n) = (due ≡ written (printed_rows table aux 0 n)) × (n ≤ most_rows)
+IsUnpacked due table aux before after (Err n) = (due.out ≡ []) × Put before 0 due.error after n

@@ -11,7 +11,7 @@ use lib.Seq.{sets, take_at}
 use Rattle.words.specs.Limits.{max_rows}
 use Rattle.words.specs.Answers.{done}
 use Rattle.words.specs.Outcomes.{Outcome}
-use Rattle.words.specs.declared.Judgement.TheVariants.{Fine}
+use Rattle.words.specs.Refusals.{Fine}
 use Rattle.words.proofs.Outcomes.{outcome_fine}
 use Rattle.words.proofs.Sets.{sets_front, take_sets_front}
 use Rattle.table.specs.Columns.{main_width, aux_width, row_count, table_shape, aux_shape, all_reduced}

@@ -6,19 +6,16 @@ use native.Mathlib.Omega.{arith}
 use borrow.Author.Tests.{eq-eqb, ne_eqb}
 use lib.ListN.{length, take, drop, length-append}
 use lib.Seq.{take_at}
+use Rattle.std.specs.Prelude.{Err}
 use Rattle.words.specs.Answers.{Answer, done}
 use Rattle.words.specs.Outcomes.{Outcome, unless_declined}
-use Rattle.words.specs.declared.Judgement.{Judgement}
-use Rattle.words.specs.declared.Judgement.TheVariants.{Fine, Declined}
-use Rattle.words.specs.declared.Completed.TheVariants.{Done, Refused}
+use Rattle.words.specs.Refusals.{Judgement, Fine, Declined}
 use Rattle.words.specs.declared.Refusal.{Refusal}
 use Rattle.words.proofs.Answers.{number_positive, declined_not_done}
 use Rattle.words.proofs.Outcomes.{unless_fine}
 use Rattle.table.specs.Columns.{row_count}
 use Rattle.air.specs.Check.{check_all}
-use Rattle.check_table.specs.declared.Verdict.{Verdict}
-use Rattle.check_table.specs.declared.Verdict.TheVariants.{Refused as CheckRefused}
-use Rattle.check_table.specs.Verdicts.{verdict_answer}
+use Rattle.check_table.specs.Verdicts.{Verdict, verdict_answer}
 use Rattle.archive.specs.Archives.{archive_length, archive_bytes, archive_reason, archive_all, restore_all, TableAndAux, table_and_aux}
 use Rattle.archive.proofs.Reasons.{shaped, shapes_right, archivable, Restorable, restorable}
 use Rattle.archive_trips.specs.ArchiveTrips.{archive_then_restore, IsArchivedThenRestored, check_restored, IsCheckedRestored}
@@ -33,7 +30,7 @@ unless_done (Declined reason) before second e = absurd (declined_not_done reason
 
 module _ (table aux out to_table to_aux out_after : List ℕ) (after : TableAndAux) where
   -- the rows that came back lie within the arrays
-  pub back_within : IsArchivedThenRestored table aux out to_table to_aux Done out_after after
+  pub back_within : IsArchivedThenRestored table aux out to_table to_aux Fine out_after after
       → (length table ≤ length after.table) × (length aux ≤ length after.aux)
   unfolding archive_then_restore
   back_within t =
@@ -52,8 +49,8 @@ module _ (table aux out to_table to_aux out_after : List ℕ) (after : TableAndA
       (omega arith, omega arith)
 
   module _ (challenges : List ℕ) where
-    pub trip_refused : (k : Refusal) → IsArchivedThenRestored table aux out to_table to_aux (Refused k) out_after after
-        → IsCheckedRestored table aux challenges out to_table to_aux (CheckRefused k) out_after after
+    pub trip_refused : (k : Refusal) → IsArchivedThenRestored table aux out to_table to_aux (Declined k) out_after after
+        → IsCheckedRestored table aux challenges out to_table to_aux (Err k) out_after after
     unfolding check_restored
     trip_refused k t =
         let n = ap (λ (a : Answer). a.number) t.exact.answer in
@@ -64,7 +61,7 @@ module _ (table aux out to_table to_aux out_after : List ℕ) (after : TableAndA
           law = λ e right room. absurd (declined_not_done k (t.law e right room).answer);
         }
 
-    pub then_checked : (r : Verdict) → IsArchivedThenRestored table aux out to_table to_aux Done out_after after
+    pub then_checked : (r : Verdict) → IsArchivedThenRestored table aux out to_table to_aux Fine out_after after
         → verdict_answer r ≡ check_all (take (length table) after.table) (take (length aux) after.aux) challenges
         → IsCheckedRestored table aux challenges out to_table to_aux r out_after after
     unfolding check_restored

@@ -9,9 +9,7 @@ use lib.Seq.{length-sets}
 use Rattle.words.specs.Limits.{max_rows}
 use Rattle.words.specs.Answers.{Answer, done}
 use Rattle.words.specs.Outcomes.{Outcome, Leaves, completed_answer}
-use Rattle.words.specs.declared.Judgement.TheVariants.{Fine}
-use Rattle.words.specs.declared.Completed.{Completed}
-use Rattle.words.specs.declared.Completed.TheVariants.{Done, Refused}
+use Rattle.words.specs.Refusals.{Fine, Judgement, Declined}
 use Rattle.words.specs.declared.Refusal.{Refusal}
 use Rattle.words.proofs.Outcomes.{outcome_done, reason_told, unless_fine, unless_told}
 use Rattle.table.specs.Columns.{main_width, aux_width, row_count}
@@ -35,7 +33,7 @@ restore_answered s table aux e = outcome_done (restore_reason s table aux) _ _ _
 
 module _ (table aux out : List ℕ) where
   -- what was archived is within the bytes
-  pub archived_within : (after : List ℕ) → Leaves (archive_all table aux out) (completed_answer Done) after → archive_length (row_count table) ≤ length after
+  pub archived_within : (after : List ℕ) → Leaves (archive_all table aux out) (completed_answer Fine) after → archive_length (row_count table) ≤ length after
   archived_within after w =
       let e = archive_answered table aux out w.answer in
       let r = (archivable table aux out e).room in
@@ -44,8 +42,8 @@ module _ (table aux out : List ℕ) where
       omega arith
 
   module _ (to_table to_aux : List ℕ) where
-    pub archive_refused : (k : Refusal) (after : List ℕ) → Leaves (archive_all table aux out) (completed_answer (Refused k)) after
-        → IsArchivedThenRestored table aux out to_table to_aux (Refused k) after (table_and_aux to_table to_aux)
+    pub archive_refused : (k : Refusal) (after : List ℕ) → Leaves (archive_all table aux out) (completed_answer (Declined k)) after
+        → IsArchivedThenRestored table aux out to_table to_aux (Declined k) after (table_and_aux to_table to_aux)
     unfolding archive_then_restore archive_all
     archive_refused k after w = record {
       exact = unless_told (archive_reason table aux out) _ _ _ k w.answer (table_and_aux to_table to_aux) _;
@@ -53,7 +51,7 @@ module _ (table aux out : List ℕ) where
       law = λ e. absurd (reason_told (archive_reason table aux out) _ _ _ k w.answer e);
     }
 
-    pub then_restored : (bytes : List ℕ) (r : Completed) (after : TableAndAux) → Leaves (archive_all table aux out) (completed_answer Done) bytes
+    pub then_restored : (bytes : List ℕ) (r : Judgement) (after : TableAndAux) → Leaves (archive_all table aux out) (completed_answer Fine) bytes
         → Leaves (restore_all (take (archive_length (row_count table)) bytes) to_table to_aux) (completed_answer r) after
         → IsArchivedThenRestored table aux out to_table to_aux r bytes after
     unfolding archive_then_restore
@@ -77,7 +75,7 @@ pub record Within (s : List ℕ) (after : TableAndAux) : Type 0 where
   pub rows : main_width * archived_rows s ≤ length after.table
   pub sums : aux_width * archived_rows s ≤ length after.aux
 
-pub restored_within : (s table aux : List ℕ) (after : TableAndAux) → Leaves (restore_all s table aux) (completed_answer Done) after → Within s after
+pub restored_within : (s table aux : List ℕ) (after : TableAndAux) → Leaves (restore_all s table aux) (completed_answer Fine) after → Within s after
 restored_within s table aux after d =
     let e = restore_answered s table aux d.answer in
     let h = restorable s table aux e in
@@ -93,8 +91,8 @@ restored_within s table aux after d =
     record { count = omega arith; few = few; rows = omega arith; sums = omega arith }
 
 module _ (s table aux out : List ℕ) where
-  pub restore_refused : (k : Refusal) (after : TableAndAux) → Leaves (restore_all s table aux) (completed_answer (Refused k)) after
-      → IsRestoredThenArchived s table aux out (Refused k) after out
+  pub restore_refused : (k : Refusal) (after : TableAndAux) → Leaves (restore_all s table aux) (completed_answer (Declined k)) after
+      → IsRestoredThenArchived s table aux out (Declined k) after out
   unfolding restore_then_archive restore_all
   restore_refused k after d = record {
     exact = unless_told (restore_reason s table aux) _ _ _ k d.answer out _;
@@ -102,8 +100,8 @@ module _ (s table aux out : List ℕ) where
     law = λ e. absurd (reason_told (restore_reason s table aux) _ _ _ k d.answer e);
   }
 
-  pub then_archived : (after : TableAndAux) (r : Completed) (bytes : List ℕ) → ((j : ℕ) → get_or s j 0 < 256)
-      → Leaves (restore_all s table aux) (completed_answer Done) after
+  pub then_archived : (after : TableAndAux) (r : Judgement) (bytes : List ℕ) → ((j : ℕ) → get_or s j 0 < 256)
+      → Leaves (restore_all s table aux) (completed_answer Fine) after
       → Leaves (archive_all (take (main_width * archived_rows s) after.table) (take (aux_width * archived_rows s) after.aux) out) (completed_answer r) bytes
       → IsRestoredThenArchived s table aux out r after bytes
   unfolding restore_then_archive

@@ -3,13 +3,11 @@
 use Rattle.std.specs.Prelude.{ℕ, ◌*◌, ◌≤◌, ◌≡◌, cond, List, [], ◌++◌, eqb, length, take, drop}
 use Rattle.words.specs.Answers.{Answer, done}
 use Rattle.words.specs.Outcomes.{Outcome, Leaves, completed_answer, unless_declined}
-use Rattle.words.specs.declared.Completed.{Completed}
-use Rattle.words.specs.declared.Judgement.TheVariants.{Fine}
+use Rattle.words.specs.Refusals.{Judgement, Fine}
 use Rattle.table.specs.Columns.{main_width, aux_width, row_count}
 use Rattle.air.specs.Check.{check_all}
 use Rattle.archive.specs.Archives.{archive_length, archived_rows, shapes, archive_reason, archive_all, restore_reason, restore_all, TableAndAux, table_and_aux}
-use Rattle.check_table.specs.declared.Verdict.{Verdict}
-use Rattle.check_table.specs.Verdicts.{verdict_answer}
+use Rattle.check_table.specs.Verdicts.{Verdict, verdict_answer}
 
 -- ---- archive, then restore
 
@@ -27,7 +25,7 @@ archive_then_restore table aux out to_table to_aux =
     (restore_all (take (archive_length (row_count table)) (archive_all table aux out).left) to_table to_aux)
 
 -- What both calls leave, and the law: what is not refused comes back, onto any destination of right shape with as many rows
-pub record IsArchivedThenRestored (table aux out to_table to_aux : List ℕ) (r : Completed) (out_after : List ℕ) (after : TableAndAux) : Type 0 where
+pub record IsArchivedThenRestored (table aux out to_table to_aux : List ℕ) (r : Judgement) (out_after : List ℕ) (after : TableAndAux) : Type 0 where
   pub exact : Leaves (archive_then_restore table aux out to_table to_aux) (completed_answer r) after
   pub bytes : out_after ≡ (archive_all table aux out).left
   pub law : archive_reason table aux out ≡ Fine → shapes to_table to_aux ≡ Fine → row_count table ≤ row_count to_table
@@ -50,7 +48,7 @@ restore_then_archive s table aux out =
     out)
 
 -- What both calls leave, and the law: bytes that are not refused are archived again to the same bytes, wherever there is room for them
-pub record IsRestoredThenArchived (s table aux out : List ℕ) (r : Completed) (after : TableAndAux) (out_after : List ℕ) : Type 0 where
+pub record IsRestoredThenArchived (s table aux out : List ℕ) (r : Judgement) (after : TableAndAux) (out_after : List ℕ) : Type 0 where
   pub exact : Leaves (restore_then_archive s table aux out) (completed_answer r) out_after
   pub arrays : after ≡ (restore_all s table aux).left
   pub law : restore_reason s table aux ≡ Fine → length s ≤ length out → SameArchive s out (record { answer = completed_answer r; left = out_after })

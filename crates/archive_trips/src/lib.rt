@@ -7,7 +7,7 @@ ghost use Rattle.archive_trips.specs.ArchiveTrips.{IsArchivedThenRestored, IsRes
 
 use check_table::Verdict;
 use table::{AuxRow, MainRow};
-use words::Completed;
+use words::Refusal;
 
 // Archives a table and its sums, then restores what was archived onto another.
 pub fn archive_then_restore(
@@ -16,17 +16,13 @@ pub fn archive_then_restore(
     out: &mut [u8],
     to_table: &mut [u64],
     to_aux: &mut [u64],
-) -> Completed
+) -> Result<(), Refusal>
     ensures { IsArchivedThenRestored table.now aux.now out.old to_table.old to_aux.old result out.new (table_and_aux to_table.new to_aux.new) }
 {
-    match archive::archive(table, aux, out) {
-        Completed::Refused(reason) => Completed::Refused(reason),
-        Completed::Done => {
-            let rows = table.len() / MainRow::WIDTH;
-            let end = archive::archive_length(rows);
-            archive::restore(&out[..end], to_table, to_aux)
-        }
-    }
+    archive::archive(table, aux, out)?;
+    let rows = table.len() / MainRow::WIDTH;
+    let end = archive::archive_length(rows);
+    archive::restore(&out[..end], to_table, to_aux)
 }
 
 // Restores bytes onto a table and its sums, then archives the rows that came back.
@@ -35,18 +31,14 @@ pub fn restore_then_archive(
     table: &mut [u64],
     aux: &mut [u64],
     out: &mut [u8],
-) -> Completed
+) -> Result<(), Refusal>
     ensures { IsRestoredThenArchived bytes.now table.old aux.old out.old result (table_and_aux table.new aux.new) out.new }
 {
-    match archive::restore(bytes, table, aux) {
-        Completed::Refused(reason) => Completed::Refused(reason),
-        Completed::Done => {
-            let rows = archive::archived_rows(bytes);
-            let main_words = MainRow::WIDTH * rows;
-            let aux_words = AuxRow::WIDTH * rows;
-            archive::archive(&table[..main_words], &aux[..aux_words], out)
-        }
-    }
+    archive::restore(bytes, table, aux)?;
+    let rows = archive::archived_rows(bytes);
+    let main_words = MainRow::WIDTH * rows;
+    let aux_words = AuxRow::WIDTH * rows;
+    archive::archive(&table[..main_words], &aux[..aux_words], out)
 }
 
 // Archives a table and its sums, restores them onto another, and checks the rows that came back.
@@ -60,12 +52,8 @@ pub fn check_restored(
 ) -> Verdict
     ensures { IsCheckedRestored table.now aux.now challenges.now out.old to_table.old to_aux.old result out.new (table_and_aux to_table.new to_aux.new) }
 {
-    match archive_then_restore(table, aux, out, to_table, to_aux) {
-        Completed::Refused(reason) => Verdict::Refused(reason),
-        Completed::Done => {
-            let main_words = table.len();
-            let aux_words = aux.len();
-            check_table::check(&to_table[..main_words], &to_aux[..aux_words], challenges)
-        }
-    }
+    archive_then_restore(table, aux, out, to_table, to_aux)?;
+    let main_words = table.len();
+    let aux_words = aux.len();
+    check_table::check(&to_table[..main_words], &to_aux[..aux_words], challenges)
 }

@@ -1,28 +1,26 @@
 -- The lines of the table: how long they are, and which of them is due. A setting's line is that of its totals or of its refusal; the table is put line by
 -- line. Assumes nothing.
-use Prim.Native.Nat.{ℕ, ◌+◌, ◌*◌, ◌-◌, ◌/◌, ◌%◌, ◌≤◌, ◌<◌}
+use Prim.Native.Nat.{ℕ, ◌+◌, ◌*◌, ◌-◌, ◌/◌, ◌%◌, ◌≤◌}
 use mathlib.Core.Path.{◌≡◌, sym, ◌∙◌}
 use mathlib.Core.Bool.{Bool, true, false, cond}
-use mathlib.Core.List.{List, [], ◌∷◌, ◌++◌, flat_map}
-use native.Mathlib.Numerals.{add-one}
+use mathlib.Core.List.{List, [], ◌∷◌}
+use Rattle.std.specs.List.{flat_map}
 use native.Mathlib.Omega.{arith}
 use borrow.Author.Tests.{eq-eqb, ne_eqb}
 use lib.Dec.{eqb}
-use lib.ListN.{length, get_or, drop, length-append, drop_of_length-le, length-replicate}
-use lib.Seq.{drop-cons}
+use lib.ListN.{length, get_or, length-append, length-replicate}
 use Rattle.words.specs.Answers.{Answer, done, declined}
 use Rattle.words.specs.Refusals.{refusal_number}
 use Rattle.words.specs.declared.Refusal.{Refusal}
 use Rattle.words.proofs.Answers.{number_positive}
 use Rattle.batches.specs.Batches.{trial_all}
 use Rattle.text.specs.Lines.{ascii, decimal, spaces, column}
-use Rattle.text.specs.Put.{Put}
+use Rattle.text.specs.declared.Text.{Text}
+use Rattle.text.specs.Put.{Adds}
 use Rattle.text.proofs.Decimal.{length_decimal}
-use Rattle.text.proofs.Putting.{Left, left_put, left_none, put_length, put_then}
-use Rattle.batch_text.specs.declared.Stage.{Stage}
-use Rattle.batch_text.specs.Sheet.{most_settings, end_number, IsFed}
+use Rattle.batch_text.specs.Sheet.{most_settings, Stage, end_number, IsFed}
 use Rattle.batch_text.specs.Table.{share_of, share_text, totals_line, reason_text, refusal_line, setting_line, head_text, line_for, table_text, sheet_text}
-use Rattle.batch_text.specs.Table.{too_many_text, taken_text, answer_text, max_line, max_answer}
+use Rattle.batch_text.specs.Table.{too_many_text, taken_text, answer_text, max_line}
 
 -- ---- how long the lines are
 
@@ -52,7 +50,7 @@ refusal_bound : (setting number : ℕ) → length (refusal_line setting number) 
 unfolding refusal_line
 refusal_bound setting number = simp length-append (omega (arith, column_bound 11 setting, column_bound 1 number, reason_bound number))
 
-setting_bound : (setting : ℕ) (answer : Answer) → length (setting_line setting answer) ≤ max_line
+pub setting_bound : (setting : ℕ) (answer : Answer) → length (setting_line setting answer) ≤ max_line
 unfolding setting_line
 setting_bound setting answer = go (eqb answer.number 0) where
   go : (t : Bool)
@@ -64,19 +62,10 @@ pub head_bound : (jobs : ℕ) → length (head_text jobs) ≤ max_line
 unfolding head_text
 head_bound jobs = simp length-append (omega (arith, column_bound 1 jobs))
 
-lines_bound : (jobs settings : List ℕ) → length (flat_map (line_for jobs) settings) ≤ max_line * length settings
-unfolding flat_map
+pub lines_bound : (jobs settings : List ℕ) → length (flat_map (line_for jobs) settings) ≤ max_line * length settings
 lines_bound jobs [] = omega arith
 lines_bound jobs (s ∷ settings) =
     omega (arith, lines_bound jobs settings, setting_bound s (trial_all jobs s), length-append (line_for jobs s) (flat_map (line_for jobs) settings))
-
--- ---- putting
--- after a text of at most k bytes there is room for m more
-pub put_more : {d d1 xs : List ℕ} {a a1 : ℕ} (k m : ℕ) → Put d a xs d1 a1 → length xs ≤ k → a + (k + m) ≤ length d → a1 + m ≤ length d1
-put_more k m p b h = omega (arith, p.place, put_length p)
-
-pub put_same : {d d1 xs ys : List ℕ} {a r : ℕ} → xs ≡ ys → Put d a xs d1 r → Put d a ys d1 r
-put_same e p = rw e at p
 
 -- ---- which line is due
 
@@ -97,46 +86,17 @@ pub reason_job : (number : ℕ) → (number ≡ 1 → ⊥) → ascii ": a job ha
 unfolding reason_text
 reason_job number n = rw (ne_eqb number 1 n)
 
-module _ {d d1 : List ℕ} {a r : ℕ} (jobs : List ℕ) (setting : ℕ) where
+module _ {s t : Text} (jobs : List ℕ) (setting : ℕ) where
   pub totals_due : {count rows pad : ℕ} → done (count ∷ rows ∷ pad ∷ []) ≡ trial_all jobs setting
-      → Put d a (totals_line setting count rows pad) d1 r → Put d a (setting_line setting (trial_all jobs setting)) d1 r
+      → Adds s (totals_line setting count rows pad) t → Adds s (setting_line setting (trial_all jobs setting)) t
   unfolding setting_line
   totals_due e p = rw (← e) p
 
   pub refusal_due : (reason : Refusal) {number : ℕ} → declined reason ≡ trial_all jobs setting → number ≡ refusal_number reason
-      → Put d a (refusal_line setting number) d1 r → Put d a (setting_line setting (trial_all jobs setting)) d1 r
+      → Adds s (refusal_line setting number) t → Adds s (setting_line setting (trial_all jobs setting)) t
   unfolding setting_line
   refusal_due reason e n p =
       rw (← e, ne_eqb (refusal_number reason) 0 (λ z. omega (arith, number_positive reason))) (rw n at p)
-
--- ---- the table, line by line
-
-module _ (jobs settings : List ℕ) where
-  abbrev pub lines_from : ℕ → List ℕ
-  lines_from i = flat_map (line_for jobs) (drop i settings)
-
-  lines_more : (i : ℕ) → i < length settings → lines_from i ≡ line_for jobs (get_or settings i 0) ++ lines_from (i + 1)
-  unfolding flat_map
-  lines_more i h = rw (drop-cons settings i 0 h, add-one i)
-
-  lines_end : (i : ℕ) → length settings ≤ i → lines_from i ≡ []
-  unfolding flat_map
-  lines_end i h = rw (drop_of_length-le settings h)
-
-  module _ {d d1 : List ℕ} {a next : ℕ} (i : ℕ) (left : Left d a (lines_from 0) d1 next (lines_from i)) where
-    pub table_goes_on : {d2 : List ℕ} {r : ℕ} → i < length settings
-        → Put d1 next (setting_line (get_or settings i 0) (trial_all jobs (get_or settings i 0))) d2 r → Left d a (lines_from 0) d2 r (lines_from (i + 1))
-    table_goes_on h p =
-        let l : Left d a (lines_from 0) d1 next (line_for jobs (get_or settings i 0) ++ lines_from (i + 1)) = rw (← lines_more i h) left in
-        left_put l p
-
-    module _ (few : length settings ≤ most_settings) (first : a ≤ max_line) (room : max_answer ≤ length d) where
-      pub table_room : next + max_line ≤ length d1
-      table_room = omega (arith, left.place, left.same, lines_bound jobs settings)
-
-      pub table_ends : {e : List ℕ} → length settings ≤ i → Put e 0 (head_text (length jobs)) d a → Put e 0 (table_text settings jobs) d1 next
-      unfolding table_text
-      table_ends h p = put_then p (left_none (rw (lines_end i h) at left) (omega (arith, lines_bound jobs settings)))
 
 -- ---- what a text leads to
 
@@ -157,7 +117,7 @@ pub too_many_jobs : (most : ℕ) → (most ≡ most_settings → ⊥) → ascii 
 unfolding too_many_text
 too_many_jobs most e = rw (ne_eqb most most_settings e)
 
-pub answer_put : {d d1 after : List ℕ} {r : ℕ} (stage : Stage) (words : List ℕ) {end : Stage} → IsFed (end_number stage words) end after
-    → (is : Stage) → end ≡ is → Put d 0 (taken_text is after) d1 r → Put d 0 (answer_text stage words) d1 r
+pub answer_put : {s t : Text} {after : List ℕ} (stage : Stage) (words : List ℕ) {end : Stage} → IsFed (end_number stage words) end after
+    → Adds s (taken_text end after) t → Adds s (answer_text stage words) t
 unfolding answer_text
-answer_put stage words ended is e p = rw (← ended.stage, ← ended.words, e) p
+answer_put stage words ended p = rw (← ended.stage, ← ended.words) p

@@ -1,13 +1,13 @@
 -- What `u32batch` prints: a line for each setting, with the number of batches, their rows, the padding and its share of all padded rows, or the
 -- refusal in words.
-use Rattle.std.specs.Prelude.{ℕ, ◌+◌, ◌*◌, ◌/◌, ◌%◌, cond, eqb, length, get_or, take, drop}
+use Rattle.std.specs.Prelude.{ℕ, ◌+◌, ◌*◌, ◌/◌, ◌%◌, cond, eqb, length, get_or, take, drop, Ok, Err}
 use mathlib.Core.List.{List, ◌++◌, flat_map}
 use Rattle.words.specs.Answers.{Answer}
 use Rattle.batches.specs.Batches.{trial_all}
 use Rattle.text.specs.Lines.{ascii, column, malformed_line}
-use Rattle.batch_text.specs.declared.Stage.{Stage}
-use Rattle.batch_text.specs.declared.Stage.TheVariants.{Reading, Malformed, TooMany}
-use Rattle.batch_text.specs.Sheet.{most_settings, start_stage, feed_all, end_number}
+use Rattle.numbers.specs.declared.Fault.{Fault}
+use Rattle.numbers.specs.declared.Fault.TheVariants.{Malformed, TooMany}
+use Rattle.batch_text.specs.Sheet.{most_settings, Stage, start_stage, feed_all, end_number}
 
 -- ---- a line
 -- how many thousandths of all padded rows are padding, rounded down; 0 where there are none
@@ -54,10 +54,14 @@ unfoldable pub too_many_text : (most : ℕ) → List ℕ
 too_many_text most = cond (eqb most most_settings) (ascii "too many settings: at most 16\n") (ascii "too many jobs: at most 65536\n")
 
 -- ---- a text
+-- what speaks against it
+abbrev pub fault_text : Fault → List ℕ
+fault_text (Malformed line) = malformed_line line
+fault_text (TooMany most) = too_many_text most
+
 abbrev pub taken_text : Stage → (words : List ℕ) → List ℕ
-taken_text (Reading r) words = sheet_text (take r.settings words) (take r.jobs (drop most_settings words))
-taken_text (Malformed line) words = malformed_line line
-taken_text (TooMany most) words = too_many_text most
+taken_text (Ok r) words = sheet_text (take r.sheet.settings words) (take r.sheet.jobs (drop most_settings words))
+taken_text (Err fault) words = fault_text fault
 
 -- for a text that ended here
 unfoldable pub answer_text : Stage → (words : List ℕ) → List ℕ

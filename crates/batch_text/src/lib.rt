@@ -1,15 +1,16 @@
 // The text of settings and of jobs' heights, read byte by byte as it comes, in parts of any sizes; and the table of what each setting gives.
 #![tactic(auto)]
 
-ghost use Rattle.std.specs.Prelude.{◌+◌, ◌≤◌, ◌≡◌, length, take, drop};
-ghost use Rattle.text.specs.Put.{Put};
+ghost use Rattle.std.specs.Prelude.{◌≤◌, ◌≡◌, length, take, drop, Ok};
+ghost use Rattle.text.specs.Put.{Put, HasRoom, Adds};
 ghost use Rattle.batches.specs.Batches.{trial_all};
-ghost use Rattle.batch_text.specs.Sheet.{most_settings, most_jobs, max_words, IsFed, Within, start_stage, take_number, feed_byte, feed_all, end_number};
-ghost use Rattle.batch_text.specs.Table.{share_of, share_text, totals_line, refusal_line, setting_line, head_text, table_text, sheet_text};
-ghost use Rattle.batch_text.specs.Table.{too_many_text, answer_text, max_line, max_answer};
+ghost use Rattle.batch_text.specs.Sheet.{most_settings, most_jobs, max_words, Fits, IsFed, Within, start_stage, takes, end_number};
+ghost use Rattle.batch_text.specs.Table.{share_of, share_text, totals_line, refusal_line, setting_line, head_text, table_text, sheet_text, taken_text};
+ghost use Rattle.batch_text.specs.Table.{too_many_text, fault_text, answer_text, max_line, max_answer};
 
-use batches::Trial;
-use numbers::{Place, Step};
+use batches::Totals;
+use numbers::{Fault, Reader, Sheet};
+use text::Text;
 
 // More settings are not taken.
 pub const MAX_SETTINGS: usize = 16;
@@ -20,122 +21,56 @@ pub const MAX_JOBS: usize = 65536;
 // The width of a column of the table.
 const WIDTH: usize = 11;
 
-// How far a text has been read: so many settings and so many jobs.
+// The numbers of a text of settings and jobs: so many settings and so many jobs.
 #[derive(Clone, Copy)]
-pub struct Reader {
-    pub place: Place,
+pub struct BatchSheet {
     pub settings: usize,
     pub jobs: usize,
 }
 
-#[derive(Clone, Copy)]
-pub enum Stage {
-    Reading(Reader),
-    // No such text goes on so: the line.
-    Malformed(u64),
-    // More settings, or more jobs, than this number, the most that are taken.
-    TooMany(u64),
-}
-
 // ---- the text
-// Before the first byte.
-pub fn start() -> Stage
-    ensures { result ≡ start_stage }
-{
-    Stage::Reading(Reader {
-        place: numbers::start(),
-        settings: 0,
-        jobs: 0,
-    })
-}
+impl Sheet for BatchSheet {
+    ghost room = { max_words };
 
-// A number more.
-fn take_number(place: Place, settings: usize, jobs: usize, value: u64, words: &mut [u64]) -> Stage
-    requires { (max_words ≤ length words.old) × ((settings ≤ most_settings) × (jobs ≤ most_jobs)) }
-    ensures { IsFed (take_number place settings jobs value words.old) result words.new }
-{
-    if place.line == 1 {
-        if MAX_SETTINGS <= settings {
-            return Stage::TooMany(MAX_SETTINGS as u64);
-        }
-        words[settings] = value;
-        return Stage::Reading(Reader {
-            place,
-            settings: settings + 1,
-            jobs,
-        });
-    }
-    if MAX_JOBS <= jobs {
-        return Stage::TooMany(MAX_JOBS as u64);
-    }
-    words[MAX_SETTINGS + jobs] = value;
-    Stage::Reading(Reader {
-        place,
-        settings,
-        jobs: jobs + 1,
-    })
-}
+    ghost Fits = { Fits };
 
-// A byte more, while the text is read.
-fn read_byte(reader: Reader, byte: u8, words: &mut [u64]) -> Stage
-    requires { (max_words ≤ length words.old) × ((reader.settings ≤ most_settings) × (reader.jobs ≤ most_jobs)) }
-    ensures { IsFed (feed_byte (Stage.Reading reader) byte words.old) result words.new }
-{
-    let place = reader.place;
-    let settings = reader.settings;
-    let jobs = reader.jobs;
-    match numbers::next(place, byte) {
-        Step::On(after) => Stage::Reading(Reader {
-            place: after,
-            settings,
-            jobs,
-        }),
-        Step::Number(value, after) => take_number(after, settings, jobs, value, words),
-        Step::Fault(line) => Stage::Malformed(line),
-    }
-}
+    ghost takes = { takes };
 
-// A byte more.
-fn feed_byte(stage: Stage, byte: u8, words: &mut [u64]) -> Stage
-    requires { (max_words ≤ length words.old) × Within stage }
-    ensures { IsFed (feed_byte stage byte words.old) result words.new }
-{
-    match stage {
-        Stage::Reading(reader) => read_byte(reader, byte, words),
-        Stage::Malformed(line) => Stage::Malformed(line),
-        Stage::TooMany(most) => Stage::TooMany(most),
-    }
-}
-
-// Reads a part more of the text: its numbers are put into the lent words, each at its place.
-pub fn feed(stage: Stage, part: &[u8], words: &mut [u64]) -> Stage
-    requires { (max_words ≤ length words.old) × Within stage }
-    ensures { IsFed (feed_all stage part.now words.old) result words.new }
-{
-    let mut reached = stage;
-    let mut i: usize = 0;
-    while i < part.len() {
-        reached = feed_byte(reached, part[i], words);
-        i += 1;
-    }
-    reached
-}
-
-// The end of the text, which ends a number too.
-fn end_number(stage: Stage, words: &mut [u64]) -> Stage
-    requires { (max_words ≤ length words.old) × Within stage }
-    ensures { IsFed (end_number stage words.old) result words.new }
-{
-    match stage {
-        Stage::Reading(reader) => {
-            let place = reader.place;
-            if place.inside {
-                return take_number(place, reader.settings, reader.jobs, place.value, words);
+    // A number more: a setting in the first line, else a job.
+    fn take(self, line: u64, value: u64, words: &mut [u64]) -> Result<BatchSheet, Fault> {
+        let settings = self.settings;
+        let jobs = self.jobs;
+        if line == 1 {
+            if MAX_SETTINGS <= settings {
+                return Err(Fault::TooMany(MAX_SETTINGS as u64));
             }
-            Stage::Reading(reader)
+            words[settings] = value;
+            return Ok(BatchSheet {
+                settings: settings + 1,
+                jobs,
+            });
         }
-        Stage::Malformed(line) => Stage::Malformed(line),
-        Stage::TooMany(most) => Stage::TooMany(most),
+        if MAX_JOBS <= jobs {
+            return Err(Fault::TooMany(MAX_JOBS as u64));
+        }
+        words[MAX_SETTINGS + jobs] = value;
+        Ok(BatchSheet {
+            settings,
+            jobs: jobs + 1,
+        })
+    }
+}
+
+// Before the first byte.
+pub fn start() -> Reader<BatchSheet>
+    ensures { Ok result ≡ start_stage }
+{
+    Reader {
+        place: numbers::start(),
+        sheet: BatchSheet {
+            settings: 0,
+            jobs: 0,
+        },
     }
 }
 
@@ -152,126 +87,141 @@ fn share(rows: u64, padding: u64) -> u64
 }
 
 // Puts thousandths as a percentage, and ends the line.
-fn put_share(out: &mut [u8], at: usize, thousandths: u64) -> usize
-    requires { at + 64 ≤ length out.old }
-    ensures { Put out.old at (share_text thousandths) out.new result }
+fn put_share(text: &mut Text, thousandths: u64)
+    requires { HasRoom text.old 64 }
+    ensures { Adds text.old (share_text thousandths) text.new }
 {
-    let after_whole = text::put_column(out, at, 5, thousandths / 10);
-    let after_point = text::put_bytes(out, after_whole, b".");
-    let after_tenth = text::put_column(out, after_point, 1, thousandths % 10);
-    text::put_bytes(out, after_tenth, b"%\n")
+    text.put_column(5, thousandths / 10);
+    text.put_str(".");
+    text.put_column(1, thousandths % 10);
+    text.put_str("%\n");
 }
 
 // Puts the line of a setting that is taken.
-fn put_totals(out: &mut [u8], at: usize, setting: u64, count: u64, rows: u64, padding: u64) -> usize
-    requires { (at + max_line ≤ length out.old) × ((rows ≤ 137438953472) × (padding ≤ 137438953472)) }
-    ensures { Put out.old at (totals_line setting count rows padding) out.new result }
+fn put_totals(text: &mut Text, setting: u64, totals: Totals)
+    requires { HasRoom text.old max_line × ((totals.rows ≤ 137438953472) × (totals.padding ≤ 137438953472)) }
+    ensures { Adds text.old (totals_line setting totals.count totals.rows totals.padding) text.new }
 {
-    let thousandths = share(rows, padding);
-    let after_setting = text::put_column(out, at, WIDTH, setting);
-    let after_count = text::put_column(out, after_setting, WIDTH, count);
-    let after_rows = text::put_column(out, after_count, WIDTH, rows);
-    let after_padding = text::put_column(out, after_rows, WIDTH, padding);
-    put_share(out, after_padding, thousandths)
+    text.put_column(WIDTH, setting);
+    text.put_column(WIDTH, totals.count);
+    text.put_column(WIDTH, totals.rows);
+    text.put_column(WIDTH, totals.padding);
+    put_share(text, share(totals.rows, totals.padding));
 }
 
 // Puts the line of a setting that is refused, with the reason in words.
-fn put_refusal(out: &mut [u8], at: usize, setting: u64, number: u64) -> usize
-    requires { at + max_line ≤ length out.old }
-    ensures { Put out.old at (refusal_line setting number) out.new result }
+fn put_refusal(text: &mut Text, setting: u64, number: u64)
+    requires { HasRoom text.old max_line }
+    ensures { Adds text.old (refusal_line setting number) text.new }
 {
-    let after_setting = text::put_column(out, at, WIDTH, setting);
-    let after_refused = text::put_bytes(out, after_setting, b"  refused ");
-    let after_number = text::put_column(out, after_refused, 1, number);
+    text.put_column(WIDTH, setting);
+    text.put_str("  refused ");
+    text.put_column(1, number);
     if number == 1 {
-        return text::put_bytes(
-            out,
-            after_number,
-            b": a setting is a number of rows from 1 to 131072\n",
-        );
+        return text.put_str(": a setting is a number of rows from 1 to 131072\n");
     }
-    text::put_bytes(
-        out,
-        after_number,
-        b": a job has more rows than the setting\n",
-    )
+    text.put_str(": a job has more rows than the setting\n");
 }
 
 // Tries a setting, and puts its line.
-fn put_setting(out: &mut [u8], at: usize, jobs: &[u64], setting: u64) -> usize
-    requires { at + max_line ≤ length out.old }
-    ensures { Put out.old at (setting_line setting (trial_all jobs.now setting)) out.new result }
+fn put_setting(text: &mut Text, jobs: &[u64], setting: u64)
+    requires { HasRoom text.old max_line }
+    ensures { Adds text.old (setting_line setting (trial_all jobs.now setting)) text.new }
 {
     match batches::try_setting(jobs, setting) {
-        Trial::Refused(reason) => put_refusal(out, at, setting, reason.number()),
-        Trial::Totals {
-            count,
-            rows,
-            padding,
-        } => put_totals(out, at, setting, count, rows, padding),
+        Ok(totals) => put_totals(text, setting, totals),
+        Err(reason) => put_refusal(text, setting, u64::from(reason)),
     }
 }
 
 // Puts the number of jobs, and the names of the columns.
-fn put_head(out: &mut [u8], jobs: u64) -> usize
-    requires { max_line ≤ length out.old }
-    ensures { Put out.old 0 (head_text jobs) out.new result }
+fn put_head(text: &mut Text, jobs: u64)
+    requires { HasRoom text.old max_line }
+    ensures { Adds text.old (head_text jobs) text.new }
 {
-    let after_label = text::put_bytes(out, 0, b"jobs ");
-    let after_jobs = text::put_column(out, after_label, 1, jobs);
-    text::put_bytes(
-        out,
-        after_jobs,
-        b"\n    setting    batches       rows    padding   share\n",
-    )
+    text.put_str("jobs ");
+    text.put_column(1, jobs);
+    text.put_str("\n    setting    batches       rows    padding   share\n");
 }
 
-// Tries each setting, and puts the table at the front of `out`; answers its length.
-pub fn put_table(out: &mut [u8], settings: &[u64], jobs: &[u64]) -> usize
-    requires { (max_answer ≤ length out.old) × (length settings.now ≤ most_settings) }
-    ensures { Put out.old 0 (table_text settings.now jobs.now) out.new result }
+// Tries each setting, and puts the table.
+pub fn put_table(text: &mut Text, settings: &[u64], jobs: &[u64])
+    requires { HasRoom text.old max_answer × (length settings.now ≤ most_settings) }
+    ensures { Adds text.old (table_text settings.now jobs.now) text.new }
 {
-    let mut next = put_head(out, jobs.len() as u64);
-    let mut i: usize = 0;
-    while i < settings.len() {
-        next = put_setting(out, next, jobs, settings[i]);
-        i += 1;
+    put_head(text, jobs.len() as u64);
+    for setting in settings {
+        put_setting(text, jobs, *setting);
     }
-    next
 }
 
 // The table, where there is a setting to try.
-fn put_sheet(words: &[u64], settings: usize, jobs: usize, out: &mut [u8]) -> usize
-    requires { (max_words ≤ length words.now) × ((settings ≤ most_settings) × ((jobs ≤ most_jobs) × (max_answer ≤ length out.old))) }
-    ensures { Put out.old 0 (sheet_text (take settings words.now) (take jobs (drop most_settings words.now))) out.new result }
+fn put_sheet(text: &mut Text, words: &[u64], settings: usize, jobs: usize)
+    requires { (max_words ≤ length words.now) × ((settings ≤ most_settings) × ((jobs ≤ most_jobs) × HasRoom text.old max_answer)) }
+    ensures { Adds text.old (sheet_text (take settings words.now) (take jobs (drop most_settings words.now))) text.new }
 {
     if settings == 0 {
-        return text::put_bytes(out, 0, b"no setting in the first line\n");
+        return text.put_str("no setting in the first line\n");
     }
     let to = MAX_SETTINGS + jobs;
-    put_table(out, &words[..settings], &words[MAX_SETTINGS..to])
+    put_table(text, &words[..settings], &words[MAX_SETTINGS..to])
 }
 
 // The line of a text with more numbers than are taken.
-fn put_too_many(out: &mut [u8], most: u64) -> usize
-    requires { max_answer ≤ length out.old }
-    ensures { Put out.old 0 (too_many_text most) out.new result }
+fn put_too_many(text: &mut Text, most: u64)
+    requires { HasRoom text.old max_answer }
+    ensures { Adds text.old (too_many_text most) text.new }
 {
     if most == MAX_SETTINGS as u64 {
-        return text::put_bytes(out, 0, b"too many settings: at most 16\n");
+        return text.put_str("too many settings: at most 16\n");
     }
-    text::put_bytes(out, 0, b"too many jobs: at most 65536\n")
+    text.put_str("too many jobs: at most 65536\n");
+}
+
+// The line of what speaks against a text.
+fn put_fault(text: &mut Text, fault: Fault)
+    requires { HasRoom text.old max_answer }
+    ensures { Adds text.old (fault_text fault) text.new }
+{
+    match fault {
+        Fault::Malformed(line) => text.put_malformed(line),
+        Fault::TooMany(most) => put_too_many(text, most),
+    }
+}
+
+// What a text leads to that ended so.
+fn put_ended(text: &mut Text, ended: Result<Reader<BatchSheet>, Fault>, words: &[u64])
+    requires { (max_words ≤ length words.now) × (HasRoom text.old max_answer × Within ended) }
+    ensures { Adds text.old (taken_text ended words.now) text.new }
+{
+    match ended {
+        Err(fault) => put_fault(text, fault),
+        Ok(reader) => put_sheet(text, words, reader.sheet.settings, reader.sheet.jobs),
+    }
+}
+
+// The end of a text, which ends a number too.
+fn end_text(
+    stage: Result<Reader<BatchSheet>, Fault>,
+    words: &mut [u64],
+) -> Result<Reader<BatchSheet>, Fault>
+    requires { (max_words ≤ length words.old) × Within stage }
+    ensures { IsFed (end_number stage words.old) result words.new }
+{
+    numbers::end_number(stage?, words)
 }
 
 // The answer for a text that ended here, at the front of `out`; answers its length.
-pub fn put_answer(stage: Stage, words: &mut [u64], out: &mut [u8]) -> usize
+pub fn put_answer(
+    stage: Result<Reader<BatchSheet>, Fault>,
+    words: &mut [u64],
+    out: &mut [u8],
+) -> usize
     requires { (max_words ≤ length words.old) × ((max_answer ≤ length out.old) × Within stage) }
     ensures { Put out.old 0 (answer_text stage words.old) out.new result }
 {
-    let ended = end_number(stage, words);
-    match ended {
-        Stage::Malformed(line) => text::put_malformed(out, 0, line),
-        Stage::TooMany(most) => put_too_many(out, most),
-        Stage::Reading(reader) => put_sheet(words, reader.settings, reader.jobs, out),
-    }
+    let ended = end_text(stage, words);
+    let mut text = Text::new(out);
+    put_ended(&mut text, ended, words);
+    text.len()
 }

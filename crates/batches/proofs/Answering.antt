@@ -1,102 +1,45 @@
 -- The ways out of the calls `try_setting` and `batches`, reason by reason, and the law of request 12 as a statement over the definitions that the
 -- contracts cite (batches_law): it holds of every list of jobs that is accepted. Assumes nothing.
-use Prim.Native.Nat.{ℕ, ◌*◌, ◌-◌, ◌/◌, ◌%◌, ◌≤◌, ◌<◌}
+use Prim.Native.Nat.{ℕ, ◌*◌, ◌/◌, ◌%◌, ◌≤◌, ◌<◌}
 use mathlib.Core.Path.{◌≡◌, refl, sym, ap, ◌∙◌}
-use mathlib.Core.Bool.{Bool, true, false, not, ◌||◌}
+use mathlib.Core.Bool.{not, ◌||◌}
 use mathlib.Core.List.{List, [], ◌∷◌, flat_map}
 use native.Mathlib.Omega.{arith}
-use borrow.Author.Tests.{eq-eqb, ne_eqb, lt-ltb, le-ltb, ltb-false, eqb-false}
+use borrow.Author.Tests.{eq-eqb, ne_eqb, lt-ltb, le-ltb, ltb-false}
 use lib.Dec.{eqb, ltb}
 use lib.ListN.{length, get_or, take, length-append}
 use lib.Seq.{sets}
+use Rattle.std.proofs.lemmas.Bool.{or_parts}
 use Rattle.words.specs.Limits.{max_rows, max_jobs}
-use Rattle.words.specs.Answers.{Answer, done, declined}
+use Rattle.words.specs.Answers.{done, declined}
 use Rattle.words.specs.Outcomes.{Leaves, answered}
 use Rattle.words.specs.declared.Refusal.{Refusal}
 use Rattle.words.specs.declared.Refusal.TheVariants.{Shape, JobAbove, Short}
-use Rattle.words.specs.declared.Judgement.{Judgement}
-use Rattle.words.specs.declared.Judgement.TheVariants.{Fine, Declined}
-use Rattle.words.specs.Refusals.{decline_if}
+use Rattle.words.specs.Refusals.{Judgement, Fine, Declined, decline_if}
 use Rattle.words.proofs.Answers.{declined_not_done}
 use Rattle.words.proofs.Judgements.{decline_fine, or_both}
-use Rattle.words.proofs.Outcomes.{answered_fine, answered_declined, done_fine, leaves_done, leaves_declined}
+use Rattle.words.proofs.Outcomes.{done_fine, leaves_done, leaves_declined}
 use Rattle.words.proofs.Sets.{take_sets_front}
-use Rattle.list_record.specs.Plan.{padded_height}
-use Rattle.batches.specs.Batches.{Batch, batches_of, all_rows, padding, some_above, setting_reason, batch_reason, batch_words, batch_all, trial_all}
+use Rattle.batches.specs.declared.Batch.{Batch}
+use Rattle.batches.specs.Batches.{batches_of, all_rows, padding, some_above, setting_reason, batch_reason, batch_words, batch_all, trial_all}
+use Rattle.batches.specs.Left.{Gatherable}
 use Rattle.batches.specs.Splitting.{Splits, Batching}
-use Rattle.batches.proofs.Splitting.{takes, takes_bound, splits}
-use Rattle.batches.proofs.Walking.{padded_small}
-
-or_false : (a b : Bool) → (a || b) ≡ false → (a ≡ false) × (b ≡ false)
-or_false true b e = absurd (let z : ◌≡◌ {A = ℕ} 0 1 = cc in omega arith)
-or_false false b e = (refl, e)
-
--- ---- the setting and the number of jobs
-
--- nothing is said against them
-pub record Plain (jobs : List ℕ) (setting : ℕ) : Type 0 where
-  pub some : setting ≡ 0 → ⊥
-  pub small : setting ≤ max_rows
-  pub few : length jobs ≤ max_jobs
+use Rattle.batches.proofs.Splitting.{splits}
+use Rattle.batches.proofs.Walking.{all_small}
 
 module _ (jobs : List ℕ) (setting : ℕ) where
-  setting_zero : setting ≡ 0 → setting_reason jobs setting ≡ Declined Shape
-  unfolding setting_reason
-  setting_zero e = rw (eq-eqb setting 0 e)
-
-  setting_large : max_rows < setting → setting_reason jobs setting ≡ Declined Shape
-  unfolding setting_reason
-  setting_large l = rw (ne_eqb setting 0 (λ z. omega arith), lt-ltb max_rows setting l)
-
-  setting_many : (setting ≡ 0 → ⊥) → setting ≤ max_rows → max_jobs < length jobs → setting_reason jobs setting ≡ Declined Shape
-  unfolding setting_reason
-  setting_many z s l = rw (ne_eqb setting 0 z, le-ltb max_rows setting s, lt-ltb max_jobs (length jobs) l)
-
-  setting_above : Plain jobs setting → some_above setting jobs ≡ true → setting_reason jobs setting ≡ Declined JobAbove
-  unfolding setting_reason
-  setting_above p a = rw (ne_eqb setting 0 p.some, le-ltb max_rows setting p.small, le-ltb max_jobs (length jobs) p.few, a)
-
-  setting_fine : Plain jobs setting → some_above setting jobs ≡ false → setting_reason jobs setting ≡ Fine
-  unfolding setting_reason
-  setting_fine p a = rw (ne_eqb setting 0 p.some, le-ltb max_rows setting p.small, le-ltb max_jobs (length jobs) p.few, a)
-
-  -- what it tells that nothing is found
-  pub fine_tells : setting_reason jobs setting ≡ Fine → (Plain jobs setting) × (some_above setting jobs ≡ false)
+  -- what it tells that nothing is said against the setting and the jobs
+  pub fine_tells : setting_reason jobs setting ≡ Fine → Gatherable setting jobs
   unfolding setting_reason
   fine_tells e =
       let both = or_both (decline_if (eqb setting 0 || (ltb max_rows setting || ltb max_jobs (length jobs))) Shape) (decline_if (some_above setting jobs) JobAbove) e in
-      let first = or_false (eqb setting 0) (ltb max_rows setting || ltb max_jobs (length jobs)) (decline_fine _ Shape both.0) in
-      let second = or_false (ltb max_rows setting) (ltb max_jobs (length jobs)) first.1 in (
-        record {
-          some = eqb-false setting 0 first.0;
-          small = ltb-false max_rows setting second.0;
-          few = ltb-false max_jobs (length jobs) second.1;
-        },
-        decline_fine (some_above setting jobs) JobAbove both.1,
-      )
-
-  -- ---- the answers of `try_setting`
-  trial_declined : {reason : Refusal} → setting_reason jobs setting ≡ Declined reason → declined reason ≡ trial_all jobs setting
-  unfolding trial_all
-  trial_declined e = sym (answered_declined _ e)
-
-  pub trial_zero : setting ≡ 0 → declined Shape ≡ trial_all jobs setting
-  trial_zero e = trial_declined (setting_zero e)
-
-  pub trial_large : max_rows < setting → declined Shape ≡ trial_all jobs setting
-  trial_large l = trial_declined (setting_large l)
-
-  pub trial_many : (setting ≡ 0 → ⊥) → setting ≤ max_rows → max_jobs < length jobs → declined Shape ≡ trial_all jobs setting
-  trial_many z s l = trial_declined (setting_many z s l)
-
-  pub trial_above : Plain jobs setting → some_above setting jobs ≡ true → declined JobAbove ≡ trial_all jobs setting
-  trial_above p a = trial_declined (setting_above p a)
-
-  pub trial_done : {given : Answer} → Plain jobs setting → some_above setting jobs ≡ false
-      → given ≡ done (length (batches_of setting jobs) ∷ all_rows (batches_of setting jobs) ∷ padding (batches_of setting jobs) ∷ [])
-      → given ≡ trial_all jobs setting
-  unfolding trial_all
-  trial_done p a e = e ∙ sym (answered_fine _ (setting_fine p a))
+      let first = or_parts (eqb setting 0) (ltb max_rows setting || ltb max_jobs (length jobs)) (decline_fine _ Shape both.0) in
+      let second = or_parts (ltb max_rows setting) (ltb max_jobs (length jobs)) first.1 in
+      record {
+        small = ltb-false max_rows setting second.0;
+        few = ltb-false max_jobs (length jobs) second.1;
+        none_above = decline_fine (some_above setting jobs) JobAbove both.1;
+      }
 
   -- what it tells that the totals are answered
   pub record Tried (count pad : ℕ) : Type 0 where
@@ -119,14 +62,11 @@ module _ (jobs : List ℕ) (setting : ℕ) where
   unfolding trial_all
   trial_bounds {count} {rows} {pad} e =
       let told = done_fine (setting_reason jobs setting) _ tt tt (sym e) in
-      let fine = fine_tells told.0 in
-      let small = fine.0.small in
-      let few = fine.0.few in
-      let order = takes setting jobs fine.1 in
+      let small = all_small (fine_tells told.0) in
       let r : rows ≡ all_rows (batches_of setting jobs) = ap (λ (l : List ℕ). get_or l 1 0) (sym told.1) in
       let p : pad ≡ padding (batches_of setting jobs) = ap (λ (l : List ℕ). get_or l 2 0) (sym told.1) in (
-        omega (arith, takes_bound (λ x. x) (λ x l. omega arith) order),
-        omega (arith, takes_bound (λ x. padded_height x - x) (λ x l. omega (arith, padded_small x (omega arith))) order),
+        omega (arith, small.rows),
+        omega (arith, small.lacking),
       )
 
 -- ---- the answers of `batches`
@@ -142,7 +82,7 @@ pub batches_law : (jobs : List ℕ) (setting : ℕ) (results : List ℕ) → bat
 unfolding batch_reason
 batches_law jobs setting results e =
     let rest = (or_both (decline_if (not (eqb (length results % 3) 0)) Shape) _ e).1 in
-    splits jobs setting (fine_tells jobs setting (or_both (setting_reason jobs setting) _ rest).0).1
+    splits jobs setting (fine_tells jobs setting (or_both (setting_reason jobs setting) _ rest).0).none_above
 
 module _ (jobs : List ℕ) (setting : ℕ) (results : List ℕ) where
   torn_declined : (length results % 3 ≡ 0 → ⊥) → batch_reason jobs setting results ≡ Declined Shape

@@ -13,7 +13,8 @@ use lib.ListN.{length, get_or, take, drop, length-append, length-drop}
 use lib.Seq.{take_at, drop_at, get_or_at, take-add, drop-cons}
 use Rattle.words.specs.Limits.{max_rows}
 use Rattle.list_record.proofs.PaddedHeight.{padded_at_least}
-use Rattle.batches.specs.Batches.{Batch, batch, batches_from, batches_of, over_batches, all_rows, all_padded, padding, some_above}
+use Rattle.batches.specs.declared.Batch.{Batch}
+use Rattle.batches.specs.Batches.{batch, batches_from, batches_of, over_batches, all_rows, all_padded, padding, some_above}
 use Rattle.batches.specs.Splitting.{total, Takes, none, next, Splits}
 
 total_append : (xs ys : List ℕ) → total (xs ++ ys) ≡ total xs + total ys

@@ -1,26 +1,21 @@
 -- Batches (request 12): "jobs arrive in order, each with its height, and a setting gives the largest batch in rows. A job joins the open batch if
 -- the sum stays within the setting, otherwise it opens the next."
-use Rattle.std.specs.Prelude.{ℕ, ◌+◌, ◌-◌, ◌/◌, ◌%◌, Bool, false, cond, not, ◌||◌, eqb, ltb, length}
+use Rattle.std.specs.Prelude.{ℕ, ◌+◌, ◌-◌, ◌/◌, ◌%◌, Bool, false, cond, not, ◌||◌, eqb, ltb, length, Result, Ok, Err}
 use mathlib.Core.List.{List, [], ◌∷◌, flat_map}
 use Rattle.std.proofs.lemmas.List.Edits.{sets}
 use Rattle.words.specs.Limits.{max_rows, max_jobs}
 use Rattle.words.specs.Answers.{Answer, done, declined}
 use Rattle.words.specs.Outcomes.{Outcome, outcome, answered}
-use Rattle.words.specs.Refusals.{decline_if, or_else}
-use Rattle.words.specs.declared.Judgement.{Judgement}
+use Rattle.words.specs.Refusals.{decline_if, or_else, Judgement}
+use Rattle.words.specs.declared.Refusal.{Refusal}
 use Rattle.words.specs.declared.Refusal.TheVariants.{Shape, JobAbove, Short}
 use Rattle.list_record.specs.Plan.{padded_height}
-use Rattle.batches.specs.declared.Trial.{Trial}
-use Rattle.batches.specs.declared.Trial.TheVariants.{Totals, Refused as TrialRefused}
+use Rattle.batches.specs.declared.Totals.{Totals}
 use Rattle.batches.specs.declared.Batched.{Batched}
-use Rattle.batches.specs.declared.Batched.TheVariants.{Batches, Refused}
+use Rattle.batches.specs.declared.Batch.{Batch}
 
 -- ---- the batches
 -- a batch: "its job count, its rows"
-pub record Batch : Type 0 where
-  pub jobs : ℕ
-  pub rows : ℕ
-
 abbrev pub batch : (jobs rows : ℕ) → Batch
 batch jobs rows = record { jobs = jobs; rows = rows }
 
@@ -85,9 +80,9 @@ batch_all jobs setting results =
     results (sets results 0 (flat_map batch_words (batches_of setting jobs)))
 
 -- what the answer of `batches` means
-abbrev pub batched_answer : Batched → Answer
-batched_answer (Batches count pad) = done (count ∷ pad ∷ [])
-batched_answer (Refused reason) = declined reason
+abbrev pub batched_answer : Result Batched Refusal → Answer
+batched_answer (Ok b) = done (b.count ∷ b.padding ∷ [])
+batched_answer (Err reason) = declined reason
 
 -- the same with no batch listed: the number of batches, all rows and the padding
 unfoldable pub trial_all : (jobs : List ℕ) → (setting : ℕ) → Answer
@@ -96,6 +91,6 @@ trial_all jobs setting =
     (length (batches_of setting jobs) ∷ all_rows (batches_of setting jobs) ∷ padding (batches_of setting jobs) ∷ [])
 
 -- what the answer of `try_setting` means
-abbrev pub trial_answer : Trial → Answer
-trial_answer (Totals count rows pad) = done (count ∷ rows ∷ pad ∷ [])
-trial_answer (TrialRefused reason) = declined reason
+abbrev pub trial_answer : Result Totals Refusal → Answer
+trial_answer (Ok t) = done (t.count ∷ t.rows ∷ t.padding ∷ [])
+trial_answer (Err reason) = declined reason

@@ -1,11 +1,12 @@
 -- The law of request 12: "For every accepted list the batches, none empty, take the jobs in order, each job in one; the batch rows total the job
 -- heights, no batch passes the setting, each would pass it with the next one's first job, and the padding answered is all padded heights minus all
 -- rows." It does not speak of how the batches are made, and it leaves only one list of them (proofs/Splitting.antt: takes_only).
-use Rattle.std.specs.Prelude.{ℕ, ◌+◌, ◌*◌, ◌-◌, ◌≤◌, ◌<◌, ◌≡◌, ◌⊎◌, length, get_or, take, drop}
+use Rattle.std.specs.Prelude.{ℕ, ◌+◌, ◌*◌, ◌-◌, ◌≤◌, ◌<◌, ◌≡◌, ◌⊎◌, length, get_or, take, drop, Result, Ok, Err}
 use mathlib.Core.List.{List, [], ◌∷◌, flat_map}
-use Rattle.batches.specs.Batches.{Batch, all_rows, all_padded, batch_words}
+use Rattle.words.specs.declared.Refusal.{Refusal}
+use Rattle.batches.specs.declared.Batch.{Batch}
+use Rattle.batches.specs.Batches.{all_rows, all_padded, batch_words}
 use Rattle.batches.specs.declared.Batched.{Batched}
-use Rattle.batches.specs.declared.Batched.TheVariants.{Batches, Refused}
 
 -- the sum of heights
 unfoldable pub total : List ℕ → ℕ
@@ -40,6 +41,6 @@ pub record Batching (jobs : List ℕ) (setting count padding : ℕ) (results : L
   pub answered : count ≡ length list
   pub listed : take (3 * count) results ≡ flat_map batch_words list
 
-abbrev pub Lawful : (jobs : List ℕ) → (setting : ℕ) → Batched → (after : List ℕ) → Type 0
-Lawful jobs setting (Batches count padding) after = Batching jobs setting count padding after
-Lawful jobs setting (Refused reason) after = Unit
+abbrev pub Lawful : (jobs : List ℕ) → (setting : ℕ) → Result Batched Refusal → (after : List ℕ) → Type 0
+Lawful jobs setting (Ok b) after = Batching jobs setting b.count b.padding after
+Lawful jobs setting (Err reason) after = Unit

@@ -1,11 +1,17 @@
 -- What a C function returns and leaves, by the answer that is due: document 01's number, and its values in the first words of the lent array
 -- `answers`. `size` is how many words of `answers` the function states.
-use Rattle.std.specs.Prelude.{ℕ, ◌≤◌, ◌≡◌, Bool, cond, List, eqb, ltb, length}
+use Rattle.std.specs.Prelude.{ℕ, ◌≤◌, ◌≡◌, Bool, cond, List, eqb, ltb, length, Result, Ok, Err}
 use Rattle.std.proofs.lemmas.List.Edits.{sets}
-use Rattle.words.specs.Answers.{Answer}
+use Rattle.words.specs.Answers.{Answer, done, declined}
 use Rattle.words.specs.Refusals.{refusal_number}
+use Rattle.words.specs.declared.Refusal.{Refusal}
 use Rattle.words.specs.declared.Refusal.TheVariants.{Shape}
 use Rattle.list.specs.Holds.{HeldList, held_list}
+
+-- what the result of a call answers: its values, or the reason
+abbrev pub stated_answer : Result (List ℕ) Refusal → Answer
+stated_answer (Ok values) = done values
+stated_answer (Err reason) = declined reason
 
 -- a list whose sizes are handed over as two numbers
 abbrev pub lent_list : ℕ → ℕ → (keys multiplicities holds : List ℕ) → HeldList

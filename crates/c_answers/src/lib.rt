@@ -1,6 +1,33 @@
-// What every C function of the crate u32_table shares: the number that it returns and the lent array `answers` (specs/, proofs/).
-
-// The number of the reason `shape`, which a C function returns where `answers` has fewer words than the call states.
+// What every C function of the crate u32_table shares: the number that it returns and the lent array `answers` (specs/, proofs/). That
+// refusals are numbers and further answers are words of a lent array is the C interface.
 #![tactic(auto)]
 
-pub const SHAPE: u64 = 1;
+ghost use Rattle.std.specs.Prelude.{◌≡◌, ◌≤◌, length};
+ghost use Rattle.words.specs.Outcomes.{completed_answer};
+ghost use Rattle.c_answers.specs.Exports.{Exported, stated_answer};
+
+use words::Refusal;
+
+// The number of the reason Shape, which a C function returns where `answers` has fewer words than the call states.
+pub const SHAPE: u64 = Refusal::Shape as u64;
+
+// The number of a call that has no answers besides.
+pub fn number(done: Result<(), Refusal>) -> u64
+    ensures { result ≡ (completed_answer done).number }
+{
+    done.map_or_else(u64::from, |()| 0)
+}
+
+// The number of a call whose values become the first words of `answers`; a refusal writes nothing.
+pub fn stated<const N: usize>(answers: &mut [u64], due: Result<[u64; N], Refusal>) -> u64
+    requires { N ≤ length answers.old }
+    ensures { Exported N (stated_answer due.entry) answers.old result answers.new }
+{
+    match due {
+        Ok(values) => {
+            answers[..N].copy_from_slice(&values);
+            0
+        }
+        Err(reason) => u64::from(reason),
+    }
+}

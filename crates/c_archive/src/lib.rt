@@ -4,20 +4,12 @@
 ghost use Rattle.std.specs.Prelude.{◌≡◌};
 ghost use Rattle.archive.specs.Archives.{archive_all, restore_all};
 
-use words::Completed;
-
-// What is returned where the work is done.
-const DONE: u64 = 0;
-
 // It has no answers besides the number.
 pub fn archive(table: &[u64], aux: &[u64], out: &mut [u8]) -> u64
     ensures number { result ≡ (archive_all table.now aux.now out.old).answer.number }
     ensures bytes { out.new ≡ (archive_all table.now aux.now out.old).left }
 {
-    match archive::archive(table, aux, out) {
-        Completed::Done => DONE,
-        Completed::Refused(reason) => reason.number(),
-    }
+    c_answers::number(archive::archive(table, aux, out))
 }
 
 // It has no answers besides the number.
@@ -26,8 +18,5 @@ pub fn restore(bytes: &[u8], table: &mut [u64], aux: &mut [u64]) -> u64
     ensures table { table.new ≡ (restore_all bytes.now table.old aux.old).left.table }
     ensures aux { aux.new ≡ (restore_all bytes.now table.old aux.old).left.aux }
 {
-    match archive::restore(bytes, table, aux) {
-        Completed::Done => DONE,
-        Completed::Refused(reason) => reason.number(),
-    }
+    c_answers::number(archive::restore(bytes, table, aux))
 }

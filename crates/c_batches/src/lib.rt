@@ -2,16 +2,30 @@
 #![tactic(auto)]
 
 ghost use Rattle.std.specs.Prelude.{◌≡◌};
+ghost use Rattle.words.specs.Outcomes.{Leaves};
 ghost use Rattle.batches.specs.Batches.{batch_all};
-ghost use Rattle.c_answers.specs.Exports.{lent_due, Exported};
+ghost use Rattle.c_answers.specs.Exports.{lent_due, stated_answer, Exported};
 
-use batches::Batched;
 use c_answers::SHAPE;
+use words::Refusal;
 
 // How many words of `answers` the call states.
 const BATCHES_ANSWERS: usize = 2;
 
+// The call, with its answers as words.
+fn batches_words(
+    jobs: &[u64],
+    setting: u64,
+    results: &mut [u64],
+) -> Result<[u64; BATCHES_ANSWERS], Refusal>
+    ensures { Leaves (batch_all jobs.now setting results.old) (stated_answer result) results.new }
+{
+    let batched = batches::batches(jobs, setting, results)?;
+    Ok([batched.count, batched.padding])
+}
+
 // Answers: the number of batches and the padding.
+#[tactic(auto, unfolding(c_answers::specs::Exports::lent_due))]
 pub fn batches(jobs: &[u64], setting: u64, results: &mut [u64], answers: &mut [u64]) -> u64
     ensures answers { Exported 2 (batch_all jobs.now setting results.old).answer answers.old result answers.new }
     ensures results { results.new ≡ lent_due 2 answers.old results.old (batch_all jobs.now setting results.old).left }
@@ -19,12 +33,5 @@ pub fn batches(jobs: &[u64], setting: u64, results: &mut [u64], answers: &mut [u
     if answers.len() < BATCHES_ANSWERS {
         return SHAPE;
     }
-    match batches::batches(jobs, setting, results) {
-        Batched::Batches { count, padding } => {
-            answers[0] = count;
-            answers[1] = padding;
-            0
-        }
-        Batched::Refused(reason) => reason.number(),
-    }
+    c_answers::stated(answers, batches_words(jobs, setting, results))
 }

@@ -1,64 +1,32 @@
--- The two answers of a recording, of a hold and of a replay; the arrays of a call that is lent the other recorder's too; and the sizes afterwards.
--- Assumes nothing.
-use Prim.Native.Nat.{ℕ, zero, suc, ◌/◌, ◌<◌, ◌≤◌}
-use mathlib.Core.Path.{◌≡◌, refl, ap, ◌∙◌}
+-- The sizes of a list after each call, of which the C functions hand over one number or none: what they leave out is known to the caller. Assumes
+-- nothing.
+use Prim.Native.Nat.{ℕ, zero, suc, ◌/◌}
+use mathlib.Core.Path.{◌≡◌, refl, ◌∙◌}
 use mathlib.Core.Bool.{Bool, true, false, cond}
 use mathlib.Core.List.{List, [], ◌∷◌}
 use native.Mathlib.Omega.{arith}
 use lib.Dec.{eqb}
+use Rattle.std.specs.Prelude.{Ok, Err}
 use lib.ListN.{length}
-use Rattle.words.specs.Answers.{Answer, done, declined}
+use Rattle.words.specs.Answers.{Answer, declined}
 use Rattle.words.specs.Outcomes.{Outcome}
-use Rattle.words.specs.declared.Judgement.{Judgement}
-use Rattle.words.specs.declared.Judgement.TheVariants.{Fine, Declined}
+use Rattle.words.specs.Refusals.{Judgement, Fine, Declined}
 use Rattle.words.specs.declared.Refusal.TheVariants.{Shape}
 use Rattle.words.proofs.Outcomes.{outcome_done, outcome_keeps}
 use Rattle.isa.specs.declared.U32TableEntry.{U32TableEntry}
 use Rattle.isa.specs.Entries.{admitted}
-use Rattle.list.specs.declared.Sizes.{Sizes}
 use Rattle.list.specs.Lists.{capacity, used}
-use Rattle.list.specs.Holds.{HeldList, held_list}
+use Rattle.list.specs.Holds.{HeldList}
 use Rattle.list_record.specs.Recording.{place_in, known, record_reason, raised, appended, recorded_into, record_with, record_all, record_each}
 use Rattle.list_record.specs.Holding.{confirm_reason, confirm_all, drop_reason, drop_all}
-use Rattle.list_replay.specs.declared.StepEntries.{StepEntries}
-use Rattle.list_replay.specs.declared.StepEntries.TheVariants.{One, Two, Refused}
-use Rattle.list_replay.specs.Steps.{Step, step_width, step_at, step_entries}
+use Rattle.list_replay.specs.declared.Step.{Step}
+use Rattle.list_replay.specs.declared.StepEntries.TheVariants.{One, Two}
+use Rattle.list_replay.specs.Steps.{step_width, step_at, Entries, step_entries}
 use Rattle.list_replay.specs.Replay.{record_together, step_as, step_all, stopped_at, replay_from, replay_reason, replayed_as, replay_all}
 use Rattle.list_stored.specs.Stored.{read_reason, read_all}
-use Rattle.list_shared.specs.Shared.{Counts, Shared, other_shape, beside_as, beside, record_shared, hold_shared, replay_shared, read_shared}
-use Rattle.list_shared.specs.Lent.{shared}
-use Rattle.c_answers.proofs.Exporting.{lent_short, lent_called, list_short, list_called}
-use Rattle.c_lists.specs.ListAnswers.{with_used, SharedLeft}
+use Rattle.list_shared.specs.Shared.{Counts, other_shape, beside_as, beside, record_shared, hold_shared, replay_shared, read_shared}
 
-pub recorded : (due : Outcome Shared) (position : ℕ) (after : Shared)
-    → done (position ∷ []) ≡ due.answer → after ≡ due.left → done (position ∷ used after.own.list ∷ []) ≡ with_used due
-recorded due position after e f = rw (← e, ← f)
-
--- the same for a replay, whose number may be any
-pub told_with : (due : Outcome Shared) (number n : ℕ) (after : Shared)
-    → record { number = number; values = n ∷ [] } ≡ due.answer → after ≡ due.left
-    → (number ≡ (with_used due).number) × (n ∷ used after.own.list ∷ [] ≡ (with_used due).values)
-told_with due number n after e f = (ap (λ (a : Answer). a.number) e, rw (← e, ← f))
-
--- ---- the five arrays afterwards: `answers` is too short, or the call was made
-pub shared_short : (size : ℕ) (answers : List ℕ) (before due : Shared) → length answers < size
-    → SharedLeft size answers before due before.own.list.keys before.own.list.multiplicities before.own.holds before.other
-shared_short size answers before due h = record {
-  own = list_short size answers _ _ h;
-  other_multiplicities = lent_short size answers _ _ h;
-  other_holds = lent_short size answers _ _ h;
-}
-
-pub shared_called : (size : ℕ) (answers : List ℕ) (before due : Shared) (s : Sizes) (ks ms hs : List ℕ) (other : Counts)
-    → size ≤ length answers → shared (held_list s ks ms hs) other ≡ due → SharedLeft size answers before due ks ms hs other
-shared_called size answers before due s ks ms hs other h e = record {
-  own = list_called size answers _ _ s _ _ _ h (ap (λ (d : Shared). d.own) e);
-  other_multiplicities = lent_called size answers _ _ _ h (ap (λ (d : Shared). d.other.multiplicities) e);
-  other_holds = lent_called size answers _ _ _ h (ap (λ (d : Shared). d.other.holds) e);
-}
-
--- ---- the sizes afterwards, of which the C functions hand over one number or none: the capacity stays, a reading's number of entries is the number
--- of places used, and a confirm or drop leaves both sizes
+-- the capacity stays, a reading's number of entries is the number of places used, and a confirm or drop leaves both sizes
 abbrev pub places_of : HeldList → ℕ
 places_of h = capacity h.list
 
@@ -136,10 +104,10 @@ together_capacity h es = go (eqb (record_each h es).answer.number 0) where
 step_capacity : (h : HeldList) (s : Step) → places_of (step_all h s).left ≡ places_of h
 unfolding step_all
 step_capacity h s = go (step_entries s) where
-  go : (es : StepEntries) → places_of (step_as h es).left ≡ places_of h
-  go (One e) = together_capacity h (e ∷ [])
-  go (Two e f) = together_capacity h (e ∷ f ∷ [])
-  go (Refused k) = refl
+  go : (es : Entries) → places_of (step_as h es).left ≡ places_of h
+  go (Ok (One e)) = together_capacity h (e ∷ [])
+  go (Ok (Two e f)) = together_capacity h (e ∷ f ∷ [])
+  go (Err k) = refl
 
 walk_capacity : (h : HeldList) (trace : List ℕ) (i n : ℕ) → places_of (replay_from h trace i n).left ≡ places_of h
 unfolding replay_from

@@ -1,21 +1,28 @@
 // The calls on lists and entries as the C functions make them: sizes are numbers, the number of document 01 is returned, and further answers go
-// into `answers`.
+// into `answers`. That the arrays of a list come one by one is the C interface; the calls below take them as one thing.
 #![tactic(auto)]
 
-ghost use Rattle.std.specs.Prelude.{◌≡◌};
+ghost use Rattle.std.specs.Prelude.{◌≡◌, [], ◌∷◌};
+ghost use Rattle.words.specs.Outcomes.{Leaves};
 ghost use Rattle.isa.specs.Entries.{entry};
-ghost use Rattle.list_shared.specs.Lent.{counts};
-ghost use Rattle.c_answers.specs.Exports.{lent_list, Exported};
-ghost use Rattle.c_lists.specs.ListAnswers.{order_number, compare_all};
+ghost use Rattle.list.specs.Lent.{held_in, held_in_mut, SameArrays};
+ghost use Rattle.list_record.specs.Plan.{plan_all};
+ghost use Rattle.list_replay.specs.Replay.{replayed_answer};
+ghost use Rattle.list_stored.specs.Stored.{write_all};
+ghost use Rattle.list_shared.specs.Shared.{read_shared};
+ghost use Rattle.list_shared.specs.Lent.{counts, counts_in, shared, SameCounts};
+ghost use Rattle.c_answers.specs.Exports.{lent_list, stated_answer, Exported};
+ghost use Rattle.c_lists.specs.ListAnswers.{position_and_used, order_number, compare_all};
 ghost use Rattle.c_lists.specs.ListAnswers.{RecordAnswers, RecordLeaves, HoldAnswers, HoldLeaves, ConfirmLeaves, DropLeaves};
 ghost use Rattle.c_lists.specs.ListAnswers.{ReplayAnswers, ReplayLeaves, PlanAnswers, ReadAnswers, ReadLeaves, WriteAnswers, WriteLeaves};
 
 use c_answers::SHAPE;
-use isa::{Order, U32TableEntry};
-use list_record::{Planned, Recorded, Sizes};
-use list_replay::Replayed;
-use list_stored::{Read, Written};
-use words::Completed;
+use isa::U32TableEntry;
+use list::{LentList, LentListMut, Sizes};
+use list_replay::Stopped;
+use list_shared::OtherCounts;
+use std::cmp::Ordering;
+use words::Refusal;
 
 // How many words of `answers` each call states.
 const RECORD_ANSWERS: usize = 2;
@@ -32,7 +39,15 @@ const READ_ANSWERS: usize = 1;
 
 const WRITE_ANSWERS: usize = 1;
 
+// What a recording or a hold answers: the key's position, and the places used afterwards.
+fn with_used(position: Result<usize, Refusal>, used: usize) -> Result<[u64; 2], Refusal>
+    ensures { stated_answer result ≡ position_and_used position used }
+{
+    Ok([position? as u64, used as u64])
+}
+
 // Answers: the key's position, and the places used afterwards.
+#[tactic(auto, unfolding(c_answers::specs::Exports::lent_due))]
 pub fn record_entry(
     capacity: usize,
     used: usize,
@@ -52,30 +67,23 @@ pub fn record_entry(
     if answers.len() < RECORD_ANSWERS {
         return SHAPE;
     }
-    let sizes = Sizes { capacity, used };
-    let r = list_shared::record_shared(
-        sizes,
+    let mut list = LentListMut {
+        sizes: Sizes { capacity, used },
         keys,
         multiplicities,
         holds,
-        other_multiplicities,
-        other_holds,
-        opcode,
-        left_operand,
-        right_operand,
-    );
-    let answer = r.answer;
-    match answer {
-        Recorded::At(position) => {
-            answers[0] = position as u64;
-            answers[1] = r.sizes.used as u64;
-            0
-        }
-        Recorded::Refused(reason) => reason.number(),
-    }
+    };
+    let mut other = OtherCounts {
+        multiplicities: other_multiplicities,
+        holds: other_holds,
+    };
+    let entry = U32TableEntry::new(opcode, left_operand, right_operand);
+    let position = list_shared::record_shared(&mut list, &mut other, entry);
+    c_answers::stated(answers, with_used(position, list.sizes.used))
 }
 
 // Answers: the key's position, and the places used afterwards.
+#[tactic(auto, unfolding(c_answers::specs::Exports::lent_due))]
 pub fn hold_entry(
     capacity: usize,
     used: usize,
@@ -95,27 +103,19 @@ pub fn hold_entry(
     if answers.len() < HOLD_ANSWERS {
         return SHAPE;
     }
-    let sizes = Sizes { capacity, used };
-    let held = list_shared::hold_shared(
-        sizes,
+    let mut list = LentListMut {
+        sizes: Sizes { capacity, used },
         keys,
         multiplicities,
         holds,
-        other_multiplicities,
-        other_holds,
-        opcode,
-        left_operand,
-        right_operand,
-    );
-    let answer = held.answer;
-    match answer {
-        Recorded::At(at) => {
-            answers[0] = at as u64;
-            answers[1] = held.sizes.used as u64;
-            0
-        }
-        Recorded::Refused(reason) => reason.number(),
-    }
+    };
+    let mut other = OtherCounts {
+        multiplicities: other_multiplicities,
+        holds: other_holds,
+    };
+    let entry = U32TableEntry::new(opcode, left_operand, right_operand);
+    let at = list_shared::hold_shared(&mut list, &mut other, entry);
+    c_answers::stated(answers, with_used(at, list.sizes.used))
 }
 
 // It has no answers besides the number.
@@ -130,10 +130,7 @@ pub fn confirm(
     ensures { ConfirmLeaves (lent_list capacity used keys.now multiplicities.old holds.old) position result multiplicities.new holds.new }
 {
     let sizes = Sizes { capacity, used };
-    match list_record::confirm_hold(sizes, keys, multiplicities, holds, position) {
-        Completed::Done => 0,
-        Completed::Refused(reason) => reason.number(),
-    }
+    c_answers::number(list_record::confirm_hold(sizes, keys, multiplicities, holds, position))
 }
 
 // It has no answers besides the number.
@@ -148,13 +145,31 @@ pub fn drop_hold(
     ensures { DropLeaves (lent_list capacity used keys.now multiplicities.now holds.old) position result holds.new }
 {
     let sizes = Sizes { capacity, used };
-    match list_record::drop_hold(sizes, keys, multiplicities, holds, position) {
-        Completed::Done => 0,
-        Completed::Refused(reason) => reason.number(),
+    c_answers::number(list_record::drop_hold(sizes, keys, multiplicities, holds, position))
+}
+
+// What a replay tells, whether it stopped or not.
+#[derive(Clone, Copy)]
+struct Told {
+    number: u64,
+    done: usize,
+}
+
+// The number of a replay, and how many steps were done.
+fn tell(replayed: Result<usize, Stopped>) -> Told
+    ensures { record { number = result.number; values = result.done ∷ [] } ≡ replayed_answer replayed }
+{
+    match replayed {
+        Ok(done) => Told { number: 0, done },
+        Err(stopped) => Told {
+            number: u64::from(stopped.reason),
+            done: stopped.done,
+        },
     }
 }
 
 // Answers, on a refusal too: the steps done, and the places used afterwards.
+#[tactic(auto, unfolding(c_answers::specs::Exports::lent_due))]
 pub fn replay(
     capacity: usize,
     used: usize,
@@ -172,39 +187,31 @@ pub fn replay(
     if answers.len() < REPLAY_ANSWERS {
         return SHAPE;
     }
-    let sizes = Sizes { capacity, used };
-    let made = list_shared::replay_shared(
-        sizes,
+    let mut list = LentListMut {
+        sizes: Sizes { capacity, used },
         keys,
         multiplicities,
         holds,
-        other_multiplicities,
-        other_holds,
-        trace,
-    );
-    let answer = made.answer;
-    match answer {
-        Replayed::Done(steps) => {
-            answers[0] = steps as u64;
-            answers[1] = made.sizes.used as u64;
-            0
-        }
-        Replayed::Stopped { reason, done } => {
-            answers[0] = done as u64;
-            answers[1] = made.sizes.used as u64;
-            reason.number()
-        }
-    }
+    };
+    let mut other = OtherCounts {
+        multiplicities: other_multiplicities,
+        holds: other_holds,
+    };
+    let replayed = list_shared::replay_shared(&mut list, &mut other, trace);
+    let told = tell(replayed);
+    answers[0] = told.done as u64;
+    answers[1] = list.sizes.used as u64;
+    told.number
 }
 
 // 0 for less, 1 for equal, 2 for greater.
-fn order_number(order: Order) -> u64
+fn order_number(order: Ordering) -> u64
     ensures { result ≡ order_number order }
 {
     match order {
-        Order::Less => 0,
-        Order::Equal => 1,
-        Order::Greater => 2,
+        Ordering::Less => 0,
+        Ordering::Equal => 1,
+        Ordering::Greater => 2,
     }
 }
 
@@ -225,8 +232,15 @@ pub fn compare(
     }
     let entry = U32TableEntry::new(opcode, left_operand, right_operand);
     let other = U32TableEntry::new(other_opcode, other_left_operand, other_right_operand);
-    answers[0] = order_number(entry.compare(other));
-    0
+    c_answers::stated(answers, Ok([order_number(entry.compare(other))]))
+}
+
+// The call, with its answers as words.
+fn plan_words(list: &LentList) -> Result<[u64; PLAN_ANSWERS], Refusal>
+    ensures { stated_answer result ≡ plan_all (held_in list.now) }
+{
+    let heights = list_record::plan(list)?;
+    Ok([heights.height, heights.padded])
 }
 
 // Answers: the height and the padded height.
@@ -243,18 +257,30 @@ pub fn plan(
     if answers.len() < PLAN_ANSWERS {
         return SHAPE;
     }
-    let sizes = Sizes { capacity, used };
-    match list_record::plan(sizes, keys, multiplicities, holds) {
-        Planned::Heights { height, padded } => {
-            answers[0] = height;
-            answers[1] = padded;
-            0
-        }
-        Planned::Refused(reason) => reason.number(),
-    }
+    let list = LentList {
+        sizes: Sizes { capacity, used },
+        keys,
+        multiplicities,
+        holds,
+    };
+    c_answers::stated(answers, plan_words(&list))
+}
+
+// The call, with its answers as words.
+fn read_words(
+    bytes: &[u8],
+    list: &mut LentListMut,
+    other: &mut OtherCounts,
+) -> Result<[u64; READ_ANSWERS], Refusal>
+    ensures outcome { Leaves (read_shared (held_in_mut list.old) (counts_in other.old) bytes.now) (stated_answer result) (shared (held_in_mut list.new) (counts_in other.new)) }
+    ensures same_arrays { SameArrays list.old list.new }
+    ensures same_counts { SameCounts other.old other.new }
+{
+    Ok([list_shared::read_shared(bytes, list, other)? as u64])
 }
 
 // Answers: the number of entries, which is the number of places used afterwards.
+#[tactic(auto, unfolding(c_answers::specs::Exports::lent_due))]
 pub fn read(
     bytes: &[u8],
     capacity: usize,
@@ -272,27 +298,28 @@ pub fn read(
     if answers.len() < READ_ANSWERS {
         return SHAPE;
     }
-    let sizes = Sizes { capacity, used };
-    let r = list_shared::read_shared(
-        bytes,
-        sizes,
+    let mut list = LentListMut {
+        sizes: Sizes { capacity, used },
         keys,
         multiplicities,
         holds,
-        other_multiplicities,
-        other_holds,
-    );
-    let answer = r.answer;
-    match answer {
-        Read::Entries(n) => {
-            answers[0] = n as u64;
-            0
-        }
-        Read::Refused(reason) => reason.number(),
-    }
+    };
+    let mut other = OtherCounts {
+        multiplicities: other_multiplicities,
+        holds: other_holds,
+    };
+    c_answers::stated(answers, read_words(bytes, &mut list, &mut other))
+}
+
+// The call, with its answers as words.
+fn write_words(list: &LentList, out: &mut [u8]) -> Result<[u64; WRITE_ANSWERS], Refusal>
+    ensures { Leaves (write_all (held_in list.now) out.old) (stated_answer result) out.new }
+{
+    Ok([list_stored::write_list(list, out)? as u64])
 }
 
 // Answers: the number of bytes written.
+#[tactic(auto, unfolding(c_answers::specs::Exports::lent_due))]
 pub fn write(
     capacity: usize,
     used: usize,
@@ -308,12 +335,11 @@ pub fn write(
     if answers.len() < WRITE_ANSWERS {
         return SHAPE;
     }
-    let sizes = Sizes { capacity, used };
-    match list_stored::write_list(sizes, keys, multiplicities, holds, out) {
-        Written::Length(length) => {
-            answers[0] = length as u64;
-            0
-        }
-        Written::Refused(reason) => reason.number(),
-    }
+    let list = LentList {
+        sizes: Sizes { capacity, used },
+        keys,
+        multiplicities,
+        holds,
+    };
+    c_answers::stated(answers, write_words(&list, out))
 }

@@ -1,26 +1,37 @@
 // The calls on the lookup tables as the C functions make them: sizes are numbers, the number of the refusal is returned, and further answers go
-// into `answers`.
+// into `answers`. That the arrays of a table come one by one is the C interface; the calls below take them as one thing.
 #![tactic(auto)]
 
-ghost use Rattle.std.specs.Prelude.{◌≡◌};
+ghost use Rattle.std.specs.Prelude.{◌≡◌, [], ◌∷◌};
+ghost use Rattle.words.specs.Outcomes.{answered};
 ghost use Rattle.lookup.specs.Cascades.{look_up_all};
 ghost use Rattle.lookup_sums.specs.LookupSums.{byte_sum_all, cascade_sum_all};
-ghost use Rattle.c_answers.specs.Exports.{lent_due, Exported};
+ghost use Rattle.c_answers.specs.Exports.{lent_due, stated_answer, Exported};
 ghost use Rattle.c_lookups.specs.LookupAnswers.{lent_cascade, lent_lookups, looked_up_due, byte_output_due, cascade_output_due};
 
 use c_answers::SHAPE;
-use extend::Extended;
 use list::Sizes;
-use words::Completed;
+use lookup::{LentCascade, LentLookupsMut};
+use words::Refusal;
+use xfield::XFieldElement;
 
 // How many words of `answers` each call states.
 const LOOK_UP_ANSWERS: usize = 1;
 
 const LOOKUP_ANSWERS: usize = 1;
 
-const SUM_ANSWERS: usize = 3;
+const SUM_ANSWERS: usize = XFieldElement::WIDTH;
+
+// What a recording answers: the places used afterwards.
+fn used_words(recorded: Result<(), Refusal>, used: usize) -> Result<[u64; LOOK_UP_ANSWERS], Refusal>
+    ensures { stated_answer result ≡ answered recorded (used ∷ []) }
+{
+    recorded?;
+    Ok([used as u64])
+}
 
 // Answers: the places used afterwards.
+#[tactic(auto, unfolding(c_answers::specs::Exports::lent_due))]
 pub fn look_up(
     capacity: usize,
     used: usize,
@@ -38,22 +49,14 @@ pub fn look_up(
     if answers.len() < LOOK_UP_ANSWERS {
         return SHAPE;
     }
-    let sizes = Sizes { capacity, used };
-    let r = lookup::increase_lookup_multiplicities_for_limb_by_value(
-        sizes,
+    let mut tables = LentLookupsMut {
+        sizes: Sizes { capacity, used },
         keys,
         multiplicities,
         byte_multiplicities,
-        limb,
-    );
-    let answer = r.answer;
-    match answer {
-        Completed::Done => {
-            answers[0] = r.sizes.used as u64;
-            0
-        }
-        Completed::Refused(reason) => reason.number(),
-    }
+    };
+    let recorded = tables.increase_lookup_multiplicities_for_limb(limb);
+    c_answers::stated(answers, used_words(recorded, tables.sizes.used))
 }
 
 // Answers: the output of the byte.
@@ -63,8 +66,7 @@ pub fn byte_lookup(byte: u8, answers: &mut [u64]) -> u64
     if answers.len() < LOOKUP_ANSWERS {
         return SHAPE;
     }
-    answers[0] = lookup::byte_lookup(byte) as u64;
-    0
+    c_answers::stated(answers, Ok([u64::from(lookup::byte_lookup(byte))]))
 }
 
 // Answers: the output of the 16-bit value.
@@ -74,11 +76,11 @@ pub fn cascade_lookup(value: u16, answers: &mut [u64]) -> u64
     if answers.len() < LOOKUP_ANSWERS {
         return SHAPE;
     }
-    answers[0] = lookup::cascade_lookup(value) as u64;
-    0
+    c_answers::stated(answers, Ok([u64::from(lookup::cascade_lookup(value))]))
 }
 
 // Answers: the three words of the last sum.
+#[tactic(auto, unfolding(c_answers::specs::Exports::lent_due))]
 pub fn byte_sum(
     byte_multiplicities: &[u64],
     challenges: &[u64],
@@ -91,18 +93,12 @@ pub fn byte_sum(
     if answers.len() < SUM_ANSWERS {
         return SHAPE;
     }
-    match lookup_sums::byte_sum(byte_multiplicities, challenges, aux) {
-        Extended::Sum(sum) => {
-            answers[0] = sum.0.0;
-            answers[1] = sum.1.0;
-            answers[2] = sum.2.0;
-            0
-        }
-        Extended::Refused(reason) => reason.number(),
-    }
+    let sum = lookup_sums::byte_sum(byte_multiplicities, challenges, aux);
+    c_answers::stated(answers, sum.map(XFieldElement::words))
 }
 
 // Answers: the three words of the last sum.
+#[tactic(auto, unfolding(c_answers::specs::Exports::lent_due))]
 pub fn cascade_sum(
     capacity: usize,
     used: usize,
@@ -118,14 +114,11 @@ pub fn cascade_sum(
     if answers.len() < SUM_ANSWERS {
         return SHAPE;
     }
-    let sizes = Sizes { capacity, used };
-    match lookup_sums::cascade_sum(sizes, keys, multiplicities, challenges, aux) {
-        Extended::Sum(sum) => {
-            answers[0] = sum.0.0;
-            answers[1] = sum.1.0;
-            answers[2] = sum.2.0;
-            0
-        }
-        Extended::Refused(reason) => reason.number(),
-    }
+    let cascade = LentCascade {
+        sizes: Sizes { capacity, used },
+        keys,
+        multiplicities,
+    };
+    let sum = lookup_sums::cascade_sum(&cascade, challenges, aux);
+    c_answers::stated(answers, sum.map(XFieldElement::words))
 }

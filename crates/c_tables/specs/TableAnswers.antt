@@ -1,7 +1,7 @@
 -- The answers of the calls on tables, as the C functions hand them over, and what it means that the check hands over zero.
 use Rattle.std.specs.Prelude.{ℕ, ◌≤◌, ◌<◌, ◌≡◌, ◌↔◌, List, [], ◌∷◌, length, get_or}
 use Rattle.words.specs.Answers.{Answer}
-use Rattle.words.specs.declared.Judgement.TheVariants.{Fine}
+use Rattle.words.specs.Refusals.{Fine}
 use Rattle.list.specs.Holds.{HeldList}
 use Rattle.table.specs.Columns.{row_at, row_count}
 use Rattle.sums.specs.LookupSum.{lookup_sum}

@@ -1,32 +1,43 @@
 // The calls on tables as the C functions make them: sizes are numbers, the number of document 01 is returned, and further answers go into
-// `answers`.
+// `answers`. That the arrays of a list come one by one is the C interface; the call below takes them as one thing.
 #![tactic(auto)]
 
-ghost use Rattle.std.specs.Prelude.{◌≡◌};
+ghost use Rattle.std.specs.Prelude.{◌≡◌, ◌∷◌};
+ghost use Rattle.words.specs.Outcomes.{Leaves};
+ghost use Rattle.list.specs.Lent.{held_in};
+ghost use Rattle.fill.specs.Filling.{fill_all};
 ghost use Rattle.fill.specs.Padding.{pad_all};
-ghost use Rattle.c_answers.specs.Exports.{lent_list};
+ghost use Rattle.fill.specs.Extending.{extend_all};
+ghost use Rattle.check_search.specs.Finds.{nonzero_answer};
+ghost use Rattle.c_answers.specs.Exports.{lent_list, stated_answer};
 ghost use Rattle.c_tables.specs.TableAnswers.{FillAnswers, FillLeaves, ExtendAnswers, ExtendLeaves};
 ghost use Rattle.c_tables.specs.TableAnswers.{CheckAnswers, SaysZeroIff, SaysZeroSound, SaysZeroSums};
 ghost use Rattle.c_tables.specs.TableAnswers.{ClientAnswers};
 
 use c_answers::SHAPE;
-use check_table::Verdict;
-use client_sum::Terminal;
-use extend::Extended;
-use fill::Filled;
-use list::Sizes;
-use words::Completed;
+use check_search::Nonzero;
+use list::{LentList, Sizes};
+use words::Refusal;
+use xfield::XFieldElement;
 
 // How many words of `answers` each call states.
 const FILL_ANSWERS: usize = 1;
 
-const EXTEND_ANSWERS: usize = 3;
+const EXTEND_ANSWERS: usize = XFieldElement::WIDTH;
 
-const CHECK_ANSWERS: usize = 7;
+const CHECK_ANSWERS: usize = 4 + XFieldElement::WIDTH;
 
-const CLIENT_ANSWERS: usize = 3;
+const CLIENT_ANSWERS: usize = XFieldElement::WIDTH;
+
+// The call, with its answers as words.
+fn fill_words(list: &LentList, table: &mut [u64]) -> Result<[u64; FILL_ANSWERS], Refusal>
+    ensures { Leaves (fill_all (held_in list.now) table.old) (stated_answer result) table.new }
+{
+    Ok([fill::fill(list, table)?])
+}
 
 // Answers: the height.
+#[tactic(auto, unfolding(c_answers::specs::Exports::lent_due))]
 pub fn fill(
     capacity: usize,
     used: usize,
@@ -42,14 +53,13 @@ pub fn fill(
     if answers.len() < FILL_ANSWERS {
         return SHAPE;
     }
-    let sizes = Sizes { capacity, used };
-    match fill::fill(sizes, keys, multiplicities, holds, table) {
-        Filled::Rows(height) => {
-            answers[0] = height;
-            0
-        }
-        Filled::Refused(reason) => reason.number(),
-    }
+    let list = LentList {
+        sizes: Sizes { capacity, used },
+        keys,
+        multiplicities,
+        holds,
+    };
+    c_answers::stated(answers, fill_words(&list, table))
 }
 
 // It has no answers besides the number.
@@ -57,13 +67,11 @@ pub fn pad(table: &mut [u64], filled: usize) -> u64
     ensures number { result ≡ (pad_all table.old filled).answer.number }
     ensures table { table.new ≡ (pad_all table.old filled).left }
 {
-    match fill::pad(table, filled) {
-        Completed::Done => 0,
-        Completed::Refused(reason) => reason.number(),
-    }
+    c_answers::number(fill::pad(table, filled))
 }
 
 // Answers: the three words of the last sum.
+#[tactic(auto, unfolding(c_answers::specs::Exports::lent_due))]
 pub fn extend(table: &[u64], aux: &mut [u64], challenges: &[u64], answers: &mut [u64]) -> u64
     ensures answers { ExtendAnswers table.now aux.old challenges.now answers.old result answers.new }
     ensures aux { ExtendLeaves table.now aux.old challenges.now answers.old aux.new }
@@ -71,15 +79,17 @@ pub fn extend(table: &[u64], aux: &mut [u64], challenges: &[u64], answers: &mut 
     if answers.len() < EXTEND_ANSWERS {
         return SHAPE;
     }
-    match extend::extend(table, aux, challenges) {
-        Extended::Sum(sum) => {
-            answers[0] = sum.0.0;
-            answers[1] = sum.1.0;
-            answers[2] = sum.2.0;
-            0
-        }
-        Extended::Refused(reason) => reason.number(),
-    }
+    let sum = extend::extend(table, aux, challenges);
+    c_answers::stated(answers, sum.map(XFieldElement::words))
+}
+
+// The words of a constraint that is not zero.
+fn nonzero_words(found: Nonzero) -> [u64; CHECK_ANSWERS]
+    ensures { result ≡ 1 ∷ (nonzero_answer found).values }
+{
+    let [a, b, c] = found.value.words();
+    let group = u64::from(found.group);
+    [1, group, found.row as u64, found.index as u64, a, b, c]
 }
 
 // Answers: 0 where every constraint is zero, and nothing more; else 1, group, row, index and the three words of the value.
@@ -93,21 +103,9 @@ pub fn check(table: &[u64], aux: &[u64], challenges: &[u64], answers: &mut [u64]
         return SHAPE;
     }
     match check_table::check(table, aux, challenges) {
-        Verdict::Zero => {
-            answers[0] = 0;
-            0
-        }
-        Verdict::Nonzero(group, row, index, value) => {
-            answers[0] = 1;
-            answers[1] = group;
-            answers[2] = row as u64;
-            answers[3] = index as u64;
-            answers[4] = value.0.0;
-            answers[5] = value.1.0;
-            answers[6] = value.2.0;
-            0
-        }
-        Verdict::Refused(reason) => reason.number(),
+        Ok(None) => c_answers::stated(answers, Ok([0])),
+        Ok(Some(found)) => c_answers::stated(answers, Ok(nonzero_words(found))),
+        Err(reason) => u64::from(reason),
     }
 }
 
@@ -118,13 +116,6 @@ pub fn client_sum(requests: &[u64], challenges: &[u64], answers: &mut [u64]) -> 
     if answers.len() < CLIENT_ANSWERS {
         return SHAPE;
     }
-    match client_sum::compute_terminal(requests, challenges) {
-        Terminal::Sum(terminal) => {
-            answers[0] = terminal.0.0;
-            answers[1] = terminal.1.0;
-            answers[2] = terminal.2.0;
-            0
-        }
-        Terminal::Refused(reason) => reason.number(),
-    }
+    let terminal = client_sum::compute_terminal(requests, challenges);
+    c_answers::stated(answers, terminal.map(XFieldElement::words))
 }

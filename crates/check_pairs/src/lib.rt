@@ -45,6 +45,7 @@ ghost use Rattle.check_pairs.specs.Parts.{BaseTransitionOf, RunningSumTransition
 
 use check_rows::Deselectors;
 use field::BFieldElement;
+use isa::Opcode;
 use table::{AuxRow, Challenges, MainRow};
 use xfield::XFieldElement;
 
@@ -60,6 +61,7 @@ struct LeastBits {
     equal: BFieldElement,
 }
 
+#[tactic(auto, using(crate::proofs::Sums::double, crate::proofs::Sums::double_product), unfolding(air::specs::Constraints::equal_bits))]
 fn least_bits(
     lhs: BFieldElement,
     lhs_next: BFieldElement,
@@ -68,17 +70,14 @@ fn least_bits(
 ) -> LeastBits
     ensures { LeastBitsOf lhs.0 lhs_next.0 rhs.0 rhs_next.0 result }
 {
-    let lhs_lsb = lhs.sub(lhs_next.add(lhs_next));
-    let rhs_lsb = rhs.sub(rhs_next.add(rhs_next));
-    let product = lhs_lsb.mul(rhs_lsb);
+    let lhs_lsb = lhs - (lhs_next + lhs_next);
+    let rhs_lsb = rhs - (rhs_next + rhs_next);
+    let product = lhs_lsb * rhs_lsb;
     LeastBits {
         lhs: lhs_lsb,
         rhs: rhs_lsb,
         product,
-        equal: BFieldElement::ONE
-            .sub(lhs_lsb)
-            .sub(rhs_lsb)
-            .add(product.add(product)),
+        equal: BFieldElement::ONE - lhs_lsb - rhs_lsb + (product + product),
     }
 }
 
@@ -97,17 +96,17 @@ struct GeneralTransition {
 fn general_transition(upper: MainRow, lower: MainRow) -> GeneralTransition
     ensures { GeneralTransitionOf (row_of upper) (row_of lower) result }
 {
-    let next_minus_1 = lower.copy_flag.sub(BFieldElement::ONE);
-    let ci_is_pow = upper.ci.sub(BFieldElement(isa::POW));
-    let increase = lower.bits.sub(upper.bits).sub(BFieldElement::ONE);
+    let next_minus_1 = lower.copy_flag - BFieldElement::ONE;
+    let ci_is_pow = upper.ci - BFieldElement(Opcode::Pow as u64);
+    let increase = lower.bits - upper.bits - BFieldElement::ONE;
     GeneralTransition {
         next_minus_1,
         ci_is_pow,
-        lhs_is_0_or_ci_is_pow: lower.copy_flag.mul(upper.lhs).mul(ci_is_pow),
-        rhs_is_0: lower.copy_flag.mul(upper.rhs),
-        ci_stays: next_minus_1.mul(lower.ci.sub(upper.ci)),
-        bits_increase_for_lhs: next_minus_1.mul(upper.lhs).mul(ci_is_pow).mul(increase),
-        bits_increase_for_rhs: next_minus_1.mul(upper.rhs).mul(increase),
+        lhs_is_0_or_ci_is_pow: lower.copy_flag * upper.lhs * ci_is_pow,
+        rhs_is_0: lower.copy_flag * upper.rhs,
+        ci_stays: next_minus_1 * (lower.ci - upper.ci),
+        bits_increase_for_lhs: next_minus_1 * upper.lhs * ci_is_pow * increase,
+        bits_increase_for_rhs: next_minus_1 * upper.rhs * increase,
     }
 }
 
@@ -127,13 +126,8 @@ fn bit_transition(
     ensures { BitTransitionOf next_minus_1.0 ci_is_pow.0 lhs_lsb.0 rhs_lsb.0 result }
 {
     BitTransition {
-        lhs_lsb_is_a_bit: next_minus_1
-            .mul(ci_is_pow)
-            .mul(lhs_lsb)
-            .mul(lhs_lsb.sub(BFieldElement::ONE)),
-        rhs_lsb_is_a_bit: next_minus_1
-            .mul(rhs_lsb)
-            .mul(rhs_lsb.sub(BFieldElement::ONE)),
+        lhs_lsb_is_a_bit: next_minus_1 * ci_is_pow * lhs_lsb * (lhs_lsb - BFieldElement::ONE),
+        rhs_lsb_is_a_bit: next_minus_1 * rhs_lsb * (rhs_lsb - BFieldElement::ONE),
     }
 }
 
@@ -151,16 +145,10 @@ fn decided_lt_transition(
 ) -> DecidedLtTransition
     ensures { DecidedLtTransitionOf lt.0 res.0 result_next.0 result }
 {
-    let next_minus_2 = result_next.sub(BFieldElement(2));
+    let next_minus_2 = result_next - BFieldElement(2);
     DecidedLtTransition {
-        result_is_0: lt
-            .mul(result_next.sub(BFieldElement::ONE))
-            .mul(next_minus_2)
-            .mul(res),
-        result_is_1: lt
-            .mul(result_next)
-            .mul(next_minus_2)
-            .mul(res.sub(BFieldElement::ONE)),
+        result_is_0: lt * (result_next - BFieldElement::ONE) * next_minus_2 * res,
+        result_is_1: lt * result_next * next_minus_2 * (res - BFieldElement::ONE),
     }
 }
 
@@ -182,21 +170,18 @@ fn undecided_lt_transition(
 ) -> UndecidedLtTransition
     ensures { UndecidedLtTransitionOf lt.0 copy_flag.0 res.0 result_next.0 bits result }
 {
-    let undecided = lt.mul(result_next).mul(result_next.sub(BFieldElement::ONE));
-    let equal = undecided.mul(bits.equal);
+    let undecided = lt * result_next * (result_next - BFieldElement::ONE);
+    let equal = undecided * bits.equal;
     UndecidedLtTransition {
         bits_0_and_1: undecided
-            .mul(bits.lhs.sub(BFieldElement::ONE))
-            .mul(bits.rhs)
-            .mul(res.sub(BFieldElement::ONE)),
-        bits_1_and_0: undecided
-            .mul(bits.lhs)
-            .mul(bits.rhs.sub(BFieldElement::ONE))
-            .mul(res),
+            * (bits.lhs - BFieldElement::ONE)
+            * bits.rhs
+            * (res - BFieldElement::ONE),
+        bits_1_and_0: undecided * bits.lhs * (bits.rhs - BFieldElement::ONE) * res,
         equal_bits_with_copy_flag_0: equal
-            .mul(copy_flag.sub(BFieldElement::ONE))
-            .mul(res.sub(BFieldElement(2))),
-        equal_bits_with_copy_flag_1: equal.mul(copy_flag).mul(res),
+            * (copy_flag - BFieldElement::ONE)
+            * (res - BFieldElement(2)),
+        equal_bits_with_copy_flag_1: equal * copy_flag * res,
     }
 }
 
@@ -208,6 +193,7 @@ struct AndLog2FloorTransition {
     log_2_floor_is_copied: BFieldElement,
 }
 
+#[tactic(auto, using(crate::proofs::Sums::double), unfolding(table::specs::Layouts::row_of, air::specs::Constraints::one_minus_product_of))]
 fn and_log_2_floor_transition(
     and: BFieldElement,
     log_2_floor: BFieldElement,
@@ -217,17 +203,15 @@ fn and_log_2_floor_transition(
 ) -> AndLog2FloorTransition
     ensures { AndLog2FloorTransitionOf and.0 log_2_floor.0 product.0 (row_of upper) (row_of lower) result }
 {
-    let doubled = lower.result.add(lower.result);
-    let one_minus_product = BFieldElement::ONE.sub(lower.lhs.mul(lower.lhs_inv));
+    let doubled = lower.result + lower.result;
+    let one_minus_product = BFieldElement::ONE - lower.lhs * lower.lhs_inv;
     AndLog2FloorTransition {
-        and_updates: and.mul(upper.result.sub(doubled).sub(product)),
+        and_updates: and * (upper.result - doubled - product),
         log_2_floor_is_set: log_2_floor
-            .mul(one_minus_product)
-            .mul(upper.lhs)
-            .mul(upper.result.sub(upper.bits)),
-        log_2_floor_is_copied: log_2_floor
-            .mul(lower.lhs)
-            .mul(lower.result.sub(upper.result)),
+            * one_minus_product
+            * upper.lhs
+            * (upper.result - upper.bits),
+        log_2_floor_is_copied: log_2_floor * lower.lhs * (lower.result - upper.result),
     }
 }
 
@@ -240,6 +224,7 @@ struct PowPopCountTransition {
     pop_count_increases: BFieldElement,
 }
 
+#[tactic(auto, unfolding(table::specs::Layouts::row_of))]
 fn pow_pop_count_transition(
     pow: BFieldElement,
     pop_count: BFieldElement,
@@ -249,16 +234,12 @@ fn pow_pop_count_transition(
 ) -> PowPopCountTransition
     ensures { PowPopCountTransitionOf pow.0 pop_count.0 bits (row_of upper) (row_of lower) result }
 {
-    let square = lower.result.mul(lower.result);
+    let square = lower.result * lower.result;
     PowPopCountTransition {
-        pow_lhs_unchanged: pow.mul(lower.lhs.sub(upper.lhs)),
-        pow_squares: pow
-            .mul(bits.rhs.sub(BFieldElement::ONE))
-            .mul(upper.result.sub(square)),
-        pow_squares_and_mults: pow
-            .mul(bits.rhs)
-            .mul(upper.result.sub(square.mul(upper.lhs))),
-        pop_count_increases: pop_count.mul(upper.result.sub(lower.result).sub(bits.lhs)),
+        pow_lhs_unchanged: pow * (lower.lhs - upper.lhs),
+        pow_squares: pow * (bits.rhs - BFieldElement::ONE) * (upper.result - square),
+        pow_squares_and_mults: pow * bits.rhs * (upper.result - square * upper.lhs),
+        pop_count_increases: pop_count * (upper.result - lower.result - bits.lhs),
     }
 }
 
@@ -328,8 +309,8 @@ fn running_sum_transition(
 ) -> RunningSumTransition
     ensures { RunningSumTransitionOf copy_flag_next.0 multiplicity_next.0 (ext_of sum) (ext_of sum_next) (ext_of denominator) result }
 {
-    let step = sum_next.sub(sum);
-    let stays = step.scale(copy_flag_next.sub(BFieldElement::ONE));
+    let step = sum_next - sum;
+    let stays = step * (copy_flag_next - BFieldElement::ONE);
     let accumulates = check_rows::accumulated(copy_flag_next, step, denominator, multiplicity_next);
     RunningSumTransition { stays, accumulates }
 }

@@ -13,7 +13,9 @@ use Rattle.isa.proofs.Entries.{OneOfSix}
 use Rattle.table.specs.Columns.{Row}
 use Rattle.air.specs.Constraints as Poly
 use Rattle.air.specs.Constraints.{one_minus_product_of}
-use Rattle.air.proofs.Lists.{ConsistencyZero}
+use Rattle.air.specs.Check.{AllZero}
+use Rattle.air.specs.Constraints.{consistency_constraints}
+use Rattle.air.proofs.Lists.{ConsistencyZero, zero_consistency}
 use Rattle.check_plain.specs.Plain.{Flagged, Inverted, LtEqual, Ended, PlainRow}
 use Rattle.check_plain.proofs.Products.{zero_factor, factor_zero, same_zero, zs, selected_or_zero}
 
@@ -223,3 +225,10 @@ module _ {row : Row} (h : PlainRow row) where
     if_log_2_floor_on_0_then_vm_crashes = log_end.crash;
     if_copy_flag_is_0_then_lookup_multiplicity_is_0 = multiplicity_zero;
   }
+
+-- by the tests of a plain row, one after the other
+pub plain_row : (row : Row) → mul_f row.bits_minus33_inv (sub_f row.bits 33) ≡ 1 → Flagged row.copy_flag row.bits row.lookup_multiplicity
+    → Inverted row.lhs row.lhs_inv → Inverted row.rhs row.rhs_inv → Ended row.ci row.copy_flag row.lhs row.rhs row.result
+    → AllZero (consistency_constraints row)
+plain_row row bits flag lhs rhs ended =
+    zero_consistency row (plain_zero (record { flagged = flag; bits_inverse = bits; lhs_inverse_lem = lhs; rhs_inverse_lem = rhs; ended = ended }))

@@ -69,3 +69,8 @@ shared_log d a f x =
 
 pub shared_crash : (d a f : ℕ) → mul_f (mul_f d a) f ≡ mul_f (mul_f d f) a
 shared_crash d a f = solve 𝔹 (var 0 :* var 1 :* var 2) (var 0 :* var 2 :* var 1) refl (d ∷ a ∷ f ∷ [])
+
+-- ---- by name, for the functions whose answers they are
+pub ruleset deselector_products = (lt_product, and_product, log2_floor_product, pow_product, pop_count_product)
+
+pub ruleset shared_products = (shared_lt, shared_and, shared_log, shared_crash)

@@ -37,6 +37,7 @@ ghost use Rattle.check_rows.specs.Deselection.{DeselectorsOf, TimesOf};
 ghost use Rattle.check_rows.specs.Parts.{starts_words, FlagConsistencyOf, InverseConsistencyOf, ResultConsistencyOf};
 
 use field::BFieldElement;
+use isa::Opcode;
 use table::{AuxRow, Challenges, MainRow};
 use xfield::XFieldElement;
 
@@ -59,27 +60,28 @@ pub struct Deselectors {
 
 impl Deselectors {
     // From the products of the first and of the last differences.
+    #[tactic(auto, using(crate::proofs::Products::deselector_products))]
     pub fn of(ci: BFieldElement) -> Self
         ensures { DeselectorsOf ci.0 result }
     {
-        let split = ci.sub(BFieldElement(isa::SPLIT));
-        let lt = ci.sub(BFieldElement(isa::LT));
-        let and = ci.sub(BFieldElement(isa::AND));
-        let log_2_floor = ci.sub(BFieldElement(isa::LOG_2_FLOOR));
-        let pow = ci.sub(BFieldElement(isa::POW));
-        let pop_count = ci.sub(BFieldElement(isa::POP_COUNT));
-        let first2 = split.mul(lt);
-        let first3 = first2.mul(and);
-        let first4 = first3.mul(log_2_floor);
-        let last2 = pow.mul(pop_count);
-        let last3 = log_2_floor.mul(last2);
-        let last4 = and.mul(last3);
+        let split = ci - BFieldElement(Opcode::Split as u64);
+        let lt = ci - BFieldElement(Opcode::Lt as u64);
+        let and = ci - BFieldElement(Opcode::And as u64);
+        let log_2_floor = ci - BFieldElement(Opcode::Log2Floor as u64);
+        let pow = ci - BFieldElement(Opcode::Pow as u64);
+        let pop_count = ci - BFieldElement(Opcode::PopCount as u64);
+        let first2 = split * lt;
+        let first3 = first2 * and;
+        let first4 = first3 * log_2_floor;
+        let last2 = pow * pop_count;
+        let last3 = log_2_floor * last2;
+        let last4 = and * last3;
         Deselectors {
-            lt: split.mul(last4),
-            and: first2.mul(last3),
-            log_2_floor: first3.mul(last2),
-            pow: first4.mul(pop_count),
-            pop_count: first4.mul(pow),
+            lt: split * last4,
+            and: first2 * last3,
+            log_2_floor: first3 * last2,
+            pow: first4 * pop_count,
+            pop_count: first4 * pow,
         }
     }
 
@@ -88,11 +90,11 @@ impl Deselectors {
         ensures { TimesOf factor.0 self result }
     {
         Deselectors {
-            lt: factor.mul(self.lt),
-            and: factor.mul(self.and),
-            log_2_floor: factor.mul(self.log_2_floor),
-            pow: factor.mul(self.pow),
-            pop_count: factor.mul(self.pop_count),
+            lt: factor * self.lt,
+            and: factor * self.and,
+            log_2_floor: factor * self.log_2_floor,
+            pow: factor * self.pow,
+            pop_count: factor * self.pop_count,
         }
     }
 }
@@ -115,9 +117,7 @@ pub fn accumulated(
 ) -> XFieldElement
     ensures { ext_of result ≡ scale_x copy_flag.0 (sub_x (mul_x (ext_of step) (ext_of denominator)) (base_value multiplicity.0)) }
 {
-    step.mul(denominator)
-        .sub(base_value(multiplicity))
-        .scale(copy_flag)
+    (step * denominator - base_value(multiplicity)) * copy_flag
 }
 
 // ---- initial
@@ -130,9 +130,8 @@ fn starts(
 ) -> XFieldElement
     ensures { ext_of result ≡ starts_words copy_flag.0 (ext_of sum) (ext_of denominator) multiplicity.0 }
 {
-    sum.sub(XFieldElement::ZERO)
-        .scale(copy_flag.sub(BFieldElement::ONE))
-        .add(accumulated(copy_flag, sum, denominator, multiplicity))
+    (sum - XFieldElement::ZERO) * (copy_flag - BFieldElement::ONE)
+        + accumulated(copy_flag, sum, denominator, multiplicity)
 }
 
 pub fn initial_constraints(
@@ -161,17 +160,15 @@ struct FlagConsistency {
 fn flag_consistency(row: MainRow) -> FlagConsistency
     ensures { FlagConsistencyOf (row_of row) result }
 {
-    let copy_flag_minus_1 = row.copy_flag.sub(BFieldElement::ONE);
+    let copy_flag_minus_1 = row.copy_flag - BFieldElement::ONE;
     FlagConsistency {
         copy_flag_minus_1,
-        copy_flag_is_bit: row.copy_flag.mul(BFieldElement::ONE.sub(row.copy_flag)),
-        copy_flag_is_0_or_bits_is_0: row.copy_flag.mul(row.bits),
-        bits_minus_33_inv_is_inverse_of_bits_minus_33: BFieldElement::ONE.sub(
-            row.bits_minus_33_inv.mul(row.bits.sub(BFieldElement(33))),
-        ),
-        if_copy_flag_is_0_then_lookup_multiplicity_is_0: copy_flag_minus_1.mul(
-            row.lookup_multiplicity,
-        ),
+        copy_flag_is_bit: row.copy_flag * (BFieldElement::ONE - row.copy_flag),
+        copy_flag_is_0_or_bits_is_0: row.copy_flag * row.bits,
+        bits_minus_33_inv_is_inverse_of_bits_minus_33: BFieldElement::ONE
+            - row.bits_minus_33_inv * (row.bits - BFieldElement(33)),
+        if_copy_flag_is_0_then_lookup_multiplicity_is_0: copy_flag_minus_1
+            * row.lookup_multiplicity,
     }
 }
 
@@ -183,14 +180,15 @@ struct InverseConsistency {
     value_is_0_or_inverse_is_the_inverse: BFieldElement,
 }
 
+#[tactic(auto, unfolding(air::specs::Constraints::one_minus_product_of))]
 fn inverse_consistency(value: BFieldElement, inverse: BFieldElement) -> InverseConsistency
     ensures { InverseConsistencyOf value.0 inverse.0 result }
 {
-    let one_minus_product = BFieldElement::ONE.sub(value.mul(inverse));
+    let one_minus_product = BFieldElement::ONE - value * inverse;
     InverseConsistency {
         one_minus_product,
-        inv_is_0_or_the_inverse: inverse.mul(one_minus_product),
-        value_is_0_or_inverse_is_the_inverse: value.mul(one_minus_product),
+        inv_is_0_or_the_inverse: inverse * one_minus_product,
+        value_is_0_or_inverse_is_the_inverse: value * one_minus_product,
     }
 }
 
@@ -207,6 +205,7 @@ struct ResultConsistency {
 }
 
 // `lhs` and `rhs` are 1 minus LHS, or RHS, times its inverse.
+#[tactic(auto, using(crate::proofs::Products::shared_products))]
 fn result_consistency(
     deselectors: Deselectors,
     copy_flag: BFieldElement,
@@ -217,19 +216,17 @@ fn result_consistency(
 ) -> ResultConsistency
     ensures { ResultConsistencyOf deselectors copy_flag.0 copy_flag_minus_1.0 lhs.0 rhs.0 res.0 result }
 {
-    let both = lhs.mul(rhs);
-    let lt = deselectors.lt.mul(both);
-    let log_2_floor = deselectors.log_2_floor.mul(lhs);
+    let both = lhs * rhs;
+    let lt = deselectors.lt * both;
+    let log_2_floor = deselectors.log_2_floor * lhs;
     ResultConsistency {
-        for_lt_with_copy_flag_0: lt.mul(copy_flag_minus_1).mul(res.sub(BFieldElement(2))),
-        for_lt_with_copy_flag_1: lt.mul(copy_flag).mul(res),
-        for_and: deselectors.and.mul(both).mul(res),
-        for_pow: deselectors.pow.mul(rhs).mul(res.sub(BFieldElement::ONE)),
-        for_log_2_floor: log_2_floor
-            .mul(copy_flag_minus_1)
-            .mul(res.add(BFieldElement::ONE)),
-        for_pop_count: deselectors.pop_count.mul(lhs).mul(res),
-        if_log_2_floor_on_0_then_vm_crashes: log_2_floor.mul(copy_flag),
+        for_lt_with_copy_flag_0: lt * copy_flag_minus_1 * (res - BFieldElement(2)),
+        for_lt_with_copy_flag_1: lt * copy_flag * res,
+        for_and: deselectors.and * both * res,
+        for_pow: deselectors.pow * rhs * (res - BFieldElement::ONE),
+        for_log_2_floor: log_2_floor * copy_flag_minus_1 * (res + BFieldElement::ONE),
+        for_pop_count: deselectors.pop_count * lhs * res,
+        if_log_2_floor_on_0_then_vm_crashes: log_2_floor * copy_flag,
     }
 }
 
@@ -270,6 +267,6 @@ pub fn consistency_constraints(row: MainRow) -> [XFieldElement; CONSISTENCY_COUN
 pub fn terminal_constraints(row: MainRow) -> [XFieldElement; TERMINAL_COUNT]
     ensures { map ext_of result ≡ terminal_constraints (row_of row) }
 {
-    let lhs_is_0_or_ci_is_pow = row.lhs.mul(row.ci.sub(BFieldElement(isa::POW)));
+    let lhs_is_0_or_ci_is_pow = row.lhs * (row.ci - BFieldElement(Opcode::Pow as u64));
     [base_value(lhs_is_0_or_ci_is_pow), base_value(row.rhs)]
 }

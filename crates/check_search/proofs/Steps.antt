@@ -1,18 +1,21 @@
 -- The steps of a search over the values of a row, as the loops take them: the values are those that an evaluator answered, and a test
 -- was made of one of them. Assumes nothing.
-use Prim.Native.Nat.{ℕ, ◌+◌, ◌≤◌, ◌<◌}
+use Prim.Native.Nat.{ℕ, ◌+◌, ◌-◌, ◌≤◌, ◌<◌}
 use mathlib.Core.Path.{◌≡◌, refl, sym, ap, ◌∙◌}
 use mathlib.Core.Bool.{Bool, true, false, not}
 use mathlib.Core.List.{List, map}
 use native.Mathlib.Omega.{arith}
-use lib.ListN.{length, get_or, drop, get_or-map}
+use lib.ListN.{length, get_or, drop, get_or-map, length-map}
 use borrow.Author.Tests.{not-true, not-false}
 use Rattle.words.specs.Answers.{Answer}
 use Rattle.xfield.specs.Extension.{Ext, zero_x, is_zero_x}
 use Rattle.xfield.specs.XFieldElements.{ext_of}
 use Rattle.xfield.specs.declared.XFieldElement.{XFieldElement}
 use Rattle.air.specs.Check.{nonzero, first_in, first_in_rows}
-use Rattle.air.proofs.Scan.{value_zero, value_nonzero, values_done}
+use Rattle.air.proofs.Scan.{value_zero, value_nonzero, values_done, row_next}
+use Rattle.std.specs.Prelude.{Option, Some, None, is_some}
+use Rattle.check_search.specs.declared.Nonzero.{Nonzero}
+use Rattle.check_search.specs.Finds.{followed_by}
 
 -- what stands past the end of an array of elements
 abbrev pub zero_element : XFieldElement
@@ -24,23 +27,59 @@ pub one_row : (constraints : ℕ → List Ext) (group row : ℕ) (next : Answer)
 unfolding first_in_rows
 one_row constraints group row next = refl
 
--- the values of one row, of which there are `count`
-module _ (group row : ℕ) (vs : List Ext) {count : ℕ} (sized : length vs ≡ count) (i : ℕ) (next : Answer) where
+-- the search of one row alone
+pub row_alone : (constraints : ℕ → List Ext) (group row : ℕ) (next : Answer) {vs : List Ext} {a : Answer}
+    → a ≡ first_in group row 0 vs next → vs ≡ constraints row → a ≡ first_in_rows constraints group row 1 next
+row_alone constraints group row next e q = e ∙ ap (λ (l : List Ext). first_in group row 0 l next) q ∙ sym (one_row constraints group row next)
+
+-- ---- the values of one row
+module _ (group row : ℕ) (values : List XFieldElement) (i : ℕ) (next : Answer) where
+  abbrev vs : List Ext
+  vs = map ext_of values
+
+  sized : length vs ≡ length values
+  sized = length-map values ext_of
+
   -- all have been passed
-  pub all_passed : count ≤ i → first_in group row i (drop i vs) next ≡ next
-  all_passed h = values_done group row vs i next (omega arith)
+  pub all_passed : length values ≤ i → first_in group row i (drop i vs) next ≡ next
+  all_passed h = values_done group row vs i next (omega (arith, sized))
 
-  module _ (values : List XFieldElement) (e : map ext_of values ≡ vs) (h : i < count) where
-    value_at_lem : get_or vs i zero_x ≡ ext_of (get_or values i zero_element)
-    value_at_lem = sym (ap (λ (l : List Ext). get_or l i zero_x) e) ∙ get_or-map ext_of values i zero_element
+  value_at_lem : get_or vs i zero_x ≡ ext_of (get_or values i zero_element)
+  value_at_lem = get_or-map ext_of values i zero_element
 
+  module _ (h : i < length values) where
     -- the value is zero: on to the next
     pub passed : {t : Bool} → t ≡ is_zero_x (ext_of (get_or values i zero_element)) → not t ≡ false
         → first_in group row i (drop i vs) next ≡ first_in group row (i + 1) (drop (i + 1) vs) next
-    passed {t} f z = value_zero group row vs i next (omega arith) (ap is_zero_x value_at_lem ∙ sym f ∙ not-false t z)
+    passed {t} f z = value_zero group row vs i next (omega (arith, sized)) (ap is_zero_x value_at_lem ∙ sym f ∙ not-false t z)
 
     -- it is not: it is the answer
     pub found : {t : Bool} → t ≡ is_zero_x (ext_of (get_or values i zero_element)) → not t ≡ true
         → first_in group row i (drop i vs) next ≡ nonzero group row i (ext_of (get_or values i zero_element))
     found {t} f z =
-        value_nonzero group row vs i next (omega arith) (ap is_zero_x value_at_lem ∙ sym f ∙ not-true t z) ∙ ap (nonzero group row i) value_at_lem
+        value_nonzero group row vs i next (omega (arith, sized)) (ap is_zero_x value_at_lem ∙ sym f ∙ not-true t z) ∙ ap (nonzero group row i) value_at_lem
+
+-- ---- row by row
+some_found : (o : Option Nonzero) → is_some o ≡ true → (a b : Answer) → followed_by o a ≡ followed_by o b
+some_found None e a b = absurd (let z : ◌≡◌ {A = ℕ} 0 1 = cc in omega arith)
+some_found (Some n) e a b = refl
+
+none_found : (o : Option Nonzero) → is_some o ≡ false → (a : Answer) → followed_by o a ≡ a
+none_found None e a = refl
+none_found (Some n) e a = absurd (let z : ◌≡◌ {A = ℕ} 0 1 = cc in omega arith)
+
+-- what was found among the values of a row, before whatever follows
+module _ (constraints : ℕ → List Ext) (group row limit : ℕ) {vs : List Ext} (o : Option Nonzero) (e : vs ≡ constraints row)
+    (s : (next : Answer) → followed_by o next ≡ first_in group row 0 vs next) (h : row < limit) (next : Answer) where
+  from_here : first_in_rows constraints group row (limit - row) next ≡ followed_by o (first_in_rows constraints group (row + 1) (limit - (row + 1)) next)
+  from_here =
+      row_next constraints group row limit next h
+      ∙ ap (λ (l : List Ext). first_in group row 0 l (first_in_rows constraints group (row + 1) (limit - (row + 1)) next)) (sym e)
+      ∙ sym (s (first_in_rows constraints group (row + 1) (limit - (row + 1)) next))
+
+  pub row_found : {t : Bool} → t ≡ is_some o → t ≡ true → first_in_rows constraints group row (limit - row) next ≡ followed_by o next
+  row_found f t = from_here ∙ some_found o (sym f ∙ t) _ next
+
+  pub row_passed : {t : Bool} → t ≡ is_some o → t ≡ false
+      → first_in_rows constraints group row (limit - row) next ≡ first_in_rows constraints group (row + 1) (limit - (row + 1)) next
+  row_passed f t = from_here ∙ none_found o (sym f ∙ t) _

@@ -1,20 +1,23 @@
 -- What a verdict answers (document 01, "Check": "answering group 0 to 3, (upper) row, index from 0 and three-word value .. or it answers
 -- zero").
-use Rattle.std.specs.Prelude.{ℕ, ◌<◌, ◌≡◌, ◌↔◌, List}
+use Rattle.std.specs.Prelude.{ℕ, ◌<◌, ◌≡◌, ◌↔◌, List, Option, None, Some, Result, Ok, Err}
 use Rattle.words.specs.Answers.{Answer, declined}
-use Rattle.xfield.specs.XFieldElements.{ext_of}
-use Rattle.words.specs.declared.Judgement.TheVariants.{Fine}
+use Rattle.words.specs.declared.Refusal.{Refusal}
+use Rattle.words.specs.Refusals.{Fine}
 use Rattle.table.specs.Columns.{row_at, row_count}
 use Rattle.sums.specs.LookupSum.{lookup_sum}
-use Rattle.air.specs.Check.{zero_answer, nonzero, check_reason, ConstraintsHold}
+use Rattle.air.specs.Check.{zero_answer, check_reason, ConstraintsHold}
 use Rattle.air.specs.Claim.{RowTells, DenominatorsNotZero, last_sum}
-use Rattle.check_table.specs.declared.Verdict.{Verdict}
-use Rattle.check_table.specs.declared.Verdict.TheVariants.{Zero, Nonzero, Refused}
+use Rattle.check_search.specs.declared.Nonzero.{Nonzero}
+use Rattle.check_search.specs.Finds.{nonzero_answer}
+
+abbrev pub Verdict : Type 0
+Verdict = Result (Option Nonzero) Refusal
 
 abbrev pub verdict_answer : Verdict → Answer
-verdict_answer Zero = zero_answer
-verdict_answer (Nonzero group row index value) = nonzero group row index (ext_of value)
-verdict_answer (Refused reason) = declined reason
+verdict_answer (Ok None) = zero_answer
+verdict_answer (Ok (Some found)) = nonzero_answer found
+verdict_answer (Err reason) = declined reason
 
 -- ---- what it means that the check answers zero (demand 3)
 abbrev pub AnswersZero : Verdict → Type 0

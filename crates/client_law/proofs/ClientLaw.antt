@@ -12,7 +12,7 @@ use native.Mathlib.Nat.{zero-add}
 use native.Mathlib.Omega.{arith}
 use lib.ListN.{length}
 use Rattle.words.specs.Outcomes.{Outcome}
-use Rattle.words.specs.declared.Judgement.TheVariants.{Fine}
+use Rattle.words.specs.Refusals.{Fine}
 use Rattle.words.proofs.Outcomes.{answered_fine}
 use Rattle.xfield.specs.Extension.{Ext, zero_x, add_x}
 use Rattle.xfield.specs.Inverses.{inv_x}

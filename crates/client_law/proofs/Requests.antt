@@ -9,7 +9,7 @@ use native.Mathlib.Omega.{arith}
 use lib.ListN.{length, get_or, length-append}
 use lib.Seq.{get_or-append-add}
 use borrow.Author.Tests.{eq-eqb}
-use Rattle.words.specs.declared.Judgement.TheVariants.{Fine}
+use Rattle.words.specs.Refusals.{Fine}
 use Rattle.words.specs.declared.Refusal.TheVariants.{Shape, Unreduced, Flat}
 use Rattle.words.proofs.Judgements.{or_next, decline_not_true, first_none}
 use Rattle.xfield.specs.Extension.{zero_x, Reduced}

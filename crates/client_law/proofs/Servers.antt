@@ -11,7 +11,7 @@ use native.Mathlib.Omega.{arith}
 use borrow.Author.Tests.{le-ltb}
 use Rattle.words.specs.Places.{places_from, places}
 use Rattle.words.specs.Outcomes.{Outcome}
-use Rattle.words.specs.declared.Judgement.TheVariants.{Fine}
+use Rattle.words.specs.Refusals.{Fine}
 use Rattle.words.specs.declared.Refusal.TheVariants.{Shape, Short, Unreduced, Flat}
 use Rattle.words.proofs.Judgements.{or_next, decline_false, decline_not_true}
 use Rattle.words.proofs.Outcomes.{outcome_fine}

@@ -13,9 +13,7 @@ use lib.ListN.{length}
 use borrow.Author.Tests.{eq-eqb, ne_eqb}
 use Rattle.words.specs.Answers.{Answer, done, declined}
 use Rattle.words.specs.Outcomes.{answered}
-use Rattle.words.specs.Refusals.{refusal_number, first_reason, decline_if, or_else}
-use Rattle.words.specs.declared.Judgement.{Judgement}
-use Rattle.words.specs.declared.Judgement.TheVariants.{Fine, Declined}
+use Rattle.words.specs.Refusals.{refusal_number, first_reason, decline_if, or_else, Judgement, Fine, Declined}
 use Rattle.words.specs.declared.Refusal.{Refusal}
 use Rattle.words.specs.declared.Refusal.TheVariants.{Shape, Stranger, Wide, BareLog, Unreduced, Flat}
 use Rattle.words.proofs.Judgements.{or_next, or_first, or_both}
@@ -32,7 +30,7 @@ use Rattle.table.specs.Challenges.{challenges_shape}
 use Rattle.sums.specs.RunningSum.{denominator_ok, running_sum, element_words}
 use Rattle.client_sum.specs.Client.{request_count, request_at, request_summand, request_reason, client_shape, client_reason, client_sum, client_all, terminal_answer}
 use Rattle.client_sum.specs.Flat.{FirstFlat, OnlyFlat, FlatExactly}
-use Rattle.client_sum.specs.declared.Terminal.TheVariants.{Sum}
+use Rattle.std.specs.Prelude.{Ok}
 use Rattle.client_sum.proofs.Sums.{request_denominator, request_reduced}
 
 -- ---- the first reason of a walk
@@ -150,7 +148,7 @@ module _ (requests challenges : List ℕ) where
   refused e = sym (answered_declined _ e)
 
   pub summed : {sum : XFieldElement} → client_reason requests challenges ≡ Fine → ext_of sum ≡ running_sum (request_summand requests challenges) count
-      → terminal_answer (Sum sum) ≡ client_all requests challenges
+      → terminal_answer (Ok sum) ≡ client_all requests challenges
   unfolding client_all client_sum
   summed e s = ap (λ (x : Ext). done (element_words x)) s ∙ sym (answered_fine _ e)
 

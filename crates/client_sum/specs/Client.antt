@@ -1,11 +1,12 @@
 -- The client's sum (request 2): the processor's end of the lookup, "the sum of `LookupArg::compute_terminal`, taken over compressed rows".
-use Rattle.std.specs.Prelude.{ℕ, ◌+◌, ◌*◌, ◌/◌, ◌%◌, Bool, not, ◌&&◌, List, eqb, length, get_or}
+use Rattle.std.specs.Prelude.{ℕ, ◌+◌, ◌*◌, ◌/◌, ◌%◌, Bool, not, ◌&&◌, List, eqb, length, get_or, Result, Ok, Err}
 use Rattle.words.specs.Answers.{Answer, done, declined}
 use Rattle.words.specs.Outcomes.{answered}
-use Rattle.words.specs.Refusals.{decline_if, or_else, first_reason}
-use Rattle.words.specs.declared.Judgement.{Judgement}
+use Rattle.words.specs.Refusals.{decline_if, or_else, first_reason, Judgement}
+use Rattle.words.specs.declared.Refusal.{Refusal}
 use Rattle.words.specs.declared.Refusal.TheVariants.{Shape, Unreduced, Flat}
 use Rattle.xfield.specs.Extension.{Ext}
+use Rattle.xfield.specs.declared.XFieldElement.{XFieldElement}
 use Rattle.xfield.specs.XFieldElements.{ext_of}
 use Rattle.isa.specs.PlainFunctions.{plain_result}
 use Rattle.isa.specs.Entries.{lhs, rhs, entry, entry_width, judge_entry, admitted}
@@ -13,8 +14,6 @@ use Rattle.isa.specs.declared.U32TableEntry.{U32TableEntry}
 use Rattle.table.specs.Columns.{all_reduced}
 use Rattle.table.specs.Challenges.{Challenges, challenges_of, challenges_shape, denominator}
 use Rattle.sums.specs.RunningSum.{Summand, running_sum, denominator_ok, element_words}
-use Rattle.client_sum.specs.declared.Terminal.{Terminal}
-use Rattle.client_sum.specs.declared.Terminal.TheVariants.{Sum, Refused}
 
 -- "its denominator, its Result being the plain function (0 for split)"; CI is the opcode
 abbrev pub entry_denominator : Challenges → U32TableEntry → Ext
@@ -58,7 +57,10 @@ client_reason requests challenges =
 unfoldable pub client_all : (requests challenges : List ℕ) → Answer
 client_all requests challenges = answered (client_reason requests challenges) (element_words (client_sum requests challenges))
 
--- what the answer of the code means
+-- the sum over the requests, or why the call is declined; and what that answer of the code means
+abbrev pub Terminal : Type 0
+Terminal = Result XFieldElement Refusal
+
 abbrev pub terminal_answer : Terminal → Answer
-terminal_answer (Sum x) = done (element_words (ext_of x))
-terminal_answer (Refused reason) = declined reason
+terminal_answer (Ok x) = done (element_words (ext_of x))
+terminal_answer (Err reason) = declined reason

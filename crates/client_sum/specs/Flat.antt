@@ -1,8 +1,7 @@
 -- Reason 9 of a client's sum (change request 13): "met by a denominator of (0, 0, 0) and by nothing else, in .. the client's sum".
 use Rattle.std.specs.Prelude.{ℕ, ◌<◌, ◌≡◌, ◌↔◌, true, List}
 use Rattle.words.specs.Answers.{declined}
-use Rattle.words.specs.Refusals.{first_reason}
-use Rattle.words.specs.declared.Judgement.TheVariants.{Fine}
+use Rattle.words.specs.Refusals.{first_reason, Fine}
 use Rattle.words.specs.declared.Refusal.TheVariants.{Flat}
 use Rattle.xfield.specs.Extension.{zero_x}
 use Rattle.isa.specs.Entries.{judge_entry, admitted}

@@ -8,19 +8,13 @@ ghost use Rattle.table.specs.Layouts.{challenges_in};
 ghost use Rattle.client_sum.specs.Client.{entry_denominator, request_at, client_all, terminal_answer};
 
 use field::BFieldElement;
-use isa::{Admission, U32TableEntry};
+use isa::U32TableEntry;
 use table::Challenges;
 use words::Refusal;
 use xfield::XFieldElement;
 
-// The sum over the requests, or why the call is declined.
-#[derive(Clone, Copy)]
-pub enum Terminal {
-    Sum(XFieldElement),
-    Refused(Refusal),
-}
-
 // Request i: three words.
+#[tactic(auto, unfolding(crate::specs::Client::request_at))]
 fn request_at(requests: &[u64], i: usize) -> U32TableEntry
     requires { entry_width * i + entry_width ≤ length requests.now }
     ensures { result ≡ request_at requests.now i }
@@ -43,35 +37,28 @@ fn denominator_of(e: U32TableEntry, challenges: Challenges) -> XFieldElement
 
 // From (0, 0, 0), each request adds the inverse of its denominator. It refuses words that are no whole requests, or not fifteen challenge words;
 // a challenge word p or more; and, request by request, one that is not admitted or whose denominator is zero.
-pub fn compute_terminal(requests: &[u64], challenges: &[u64]) -> Terminal
+#[tactic(auto, using(table::proofs::Rows::challenges_shaped))]
+pub fn compute_terminal(requests: &[u64], challenges: &[u64]) -> Result<XFieldElement, Refusal>
     ensures { terminal_answer result ≡ client_all requests.now challenges.now }
 {
     if requests.len() % U32TableEntry::WIDTH != 0 {
-        return Terminal::Refused(Refusal::Shape);
+        return Err(Refusal::Shape);
     }
     if !Challenges::has_shape(challenges) {
-        return Terminal::Refused(Refusal::Shape);
+        return Err(Refusal::Shape);
     }
     if !table::all_reduced(challenges) {
-        return Terminal::Refused(Refusal::Unreduced);
+        return Err(Refusal::Unreduced);
     }
     let elements = Challenges::from_words(challenges);
-    let count = requests.len() / U32TableEntry::WIDTH;
     let mut sum = XFieldElement::ZERO;
-    let mut i: usize = 0;
-    while i < count {
-        let request = request_at(requests, i);
-        match request.admit() {
-            Admission::Admitted(e) => {
-                let denominator = denominator_of(e, elements);
-                if denominator.is_zero() {
-                    return Terminal::Refused(Refusal::Flat);
-                }
-                sum = sum.add(denominator.inverse_or_zero());
-            }
-            Admission::Refused(reason) => return Terminal::Refused(reason),
+    for i in 0..requests.len() / U32TableEntry::WIDTH {
+        let entry = request_at(requests, i).admit()?;
+        let denominator = denominator_of(entry, elements);
+        if denominator.is_zero() {
+            return Err(Refusal::Flat);
         }
-        i += 1;
+        sum = sum + denominator.inverse_or_zero();
     }
-    Terminal::Sum(sum)
+    Ok(sum)
 }

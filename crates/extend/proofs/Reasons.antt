@@ -7,28 +7,31 @@ use mathlib.Core.Logic.{◌↔◌}
 use mathlib.Core.Bool.{Bool, true, false, ◌&&◌, and-eq-true_iff}
 use mathlib.Core.List.{List}
 use native.Mathlib.Omega.{arith}
+use Rattle.std.specs.Prelude.{Ok}
 use Rattle.words.specs.Answers.{done, declined}
 use Rattle.words.specs.Outcomes.{Outcome, outcome, Leaves}
-use Rattle.words.specs.declared.Judgement.{Judgement}
+use Rattle.words.specs.Refusals.{Judgement, Fine, Declined}
 use Rattle.words.specs.declared.Refusal.{Refusal}
 use Rattle.words.specs.declared.Refusal.TheVariants.{Shape, Unreduced, Flat}
-use Rattle.words.specs.declared.Judgement.TheVariants.{Fine, Declined}
 use Rattle.words.proofs.Judgements.{or_both, decline_not_fine}
 use Rattle.words.proofs.Outcomes.{outcome_declined, leaves_done, leaves_declined}
 use Rattle.xfield.specs.Extension.{Ext}
 use Rattle.xfield.specs.declared.XFieldElement.{XFieldElement}
 use Rattle.xfield.specs.XFieldElements.{ext_of}
-use Rattle.table.specs.Columns.{row_count, table_shape, aux_shape, all_reduced}
-use Rattle.table.specs.Challenges.{challenges_shape}
+use Rattle.table.specs.Columns.{row_at, row_count, table_shape, aux_shape, all_reduced}
+use Rattle.table.specs.Challenges.{challenges_of, challenges_shape}
+use Rattle.table.specs.Layouts.{challenges_in}
 use Rattle.sums.specs.RunningSum.{denominators_ok, ZeroDenominator}
-use Rattle.sums.specs.LookupSum.{summand_at, lookup_sum}
-use Rattle.table.proofs.Rows.{Shaped, shaped}
+use Rattle.sums.specs.LookupSum.{summand_of, summand_at, lookup_sum}
+use Rattle.table.proofs.Rows.{Shaped, shaped, all_reduced_lem}
+use Rattle.table.proofs.Tens.{ten_more}
+use Rattle.sums.proofs.ZeroDenominators.{denominators_more}
 use Rattle.sums.proofs.ZeroDenominators as Denominators
 use Rattle.sums.specs.RunningSum.{element_words, sum_words}
 use Rattle.fill.specs.Extending.{extend_reason, extend_all}
-use Rattle.extend.specs.Extensions.{extended_answer}
+use Rattle.extend.specs.declared.Rows.{Rows}
+use Rattle.extend.specs.Extensions.{summands_in, extended_answer}
 use Rattle.extend.specs.Flat.{OnlyFlat, FlatExactly}
-use Rattle.extend.specs.declared.Extended.TheVariants.{Sum}
 use Rattle.sums.proofs.LookupSums.{summand_reduced}
 
 module _ (table aux challenges : List ℕ) where
@@ -86,7 +89,7 @@ module _ (table aux challenges : List ℕ) where
 
   pub extended : {sum : XFieldElement} {after : List ℕ}
       → extend_reason table aux challenges ≡ Fine → ext_of sum ≡ lookup_sum table challenges
-      → after ≡ sum_words (summand_at table challenges) (row_count table) → Leaves (extend_all table aux challenges) (extended_answer (Sum sum)) after
+      → after ≡ sum_words (summand_at table challenges) (row_count table) → Leaves (extend_all table aux challenges) (extended_answer (Ok sum)) after
   unfolding extend_all
   extended e s w = leaves_done _ _ _ e (ap (λ (x : Ext). done (element_words x)) s) w
 
@@ -115,3 +118,19 @@ module _ (table aux challenges : List ℕ) where
       told true a false b d c e = absurd (let z = other (unreduced a b) e in omega arith)
       told true a true b true c e = absurd (let z = other (fine a b c) e in omega arith)
       told true a true b false c e = record { shapes = a; reduced = b; zero_denominator = exactly.0 c }
+
+-- ---- the rows that the code has
+pub lent : (rows : Rows) (table challenges : List ℕ) → rows.table.now ≡ table → challenges_in rows.challenges ≡ challenges_of challenges
+    → summands_in rows ≡ summand_at table challenges
+unfolding summand_at
+lent rows table challenges t c = λ j i. summand_of (c j) (row_at (t j) i)
+
+pub judged_lent : (rows : Rows) (table challenges : List ℕ) → rows.table.now ≡ table → challenges_in rows.challenges ≡ challenges_of challenges
+    → denominators_ok (summands_in rows) (row_count rows.table.now) ≡ denominators_ok (summand_at table challenges) (row_count table)
+judged_lent rows table challenges t c = λ j. denominators_ok (lent rows table challenges t c j) (row_count (t j))
+
+-- what one pass over the rows is proved by
+pub ruleset row_steps = (ten_more, all_reduced_lem, denominators_more)
+
+-- and the judgement
+pub ruleset judge_steps = (no_shape, unreduced, flat, fine, shaped, judged_lent)

@@ -9,6 +9,6 @@ pub mod Powers
 pub mod Inverses
 pub mod Laws
 pub mod Tables
+pub mod StoredInverses
 pub mod SmallInverses
-mod Words
 mod Euclid

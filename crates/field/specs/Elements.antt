@@ -1,6 +1,7 @@
 -- Elements (document 01, "Elements"): arithmetic modulo p, over the natural numbers. Every operation takes any naturals
 -- and answers below p.
 use Rattle.std.specs.Prelude.{◌≡◌, ℕ, ◌+◌, ◌-◌, ◌*◌, ◌%◌, ◌^◌, ◌<◌, Bool, ◌≢◌, ◌==◌}
+use Rattle.std.specs.Cmp.{IsEquivalence, on_equiv, nat_eq_equiv}
 
 -- "p = 2^64 − 2^32 + 1 = 18446744069414584321"
 abbrev pub p : ℕ
@@ -42,3 +43,8 @@ is_zero_f a = a % p == 0
 
 unfoldable pub equal_f : ℕ → ℕ → Bool
 equal_f a b = a % p == b % p
+
+-- which is an equivalence
+pub equal_f_equivalence : IsEquivalence equal_f
+unfolding equal_f
+equal_f_equivalence = on_equiv (λ a. a % p) nat_eq_equiv

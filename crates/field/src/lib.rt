@@ -1,15 +1,17 @@
 // Base elements: numbers modulo p = 2^64 - 2^32 + 1. Every operation takes any 64-bit content and answers below p; its contract is one
-// equation, to its definition in specs/Elements.antt. The two that are handed a table or an inverse require that it is the right one.
+// equation, to its definition in specs/Elements.antt. The one that is handed an inverse requires that it is the right one.
 #![tactic(auto)]
 
-ghost use Rattle.std.specs.Prelude.{◌≡◌, ◌+◌, ◌*◌, ◌/◌, ◌%◌, ◌^◌};
-ghost use Rattle.field.specs.Elements.{p, add_f, sub_f, neg_f, mul_f, pow_f, inv_f, is_zero_f, equal_f};
-ghost use Rattle.field.specs.SmallInverses.{small_inverses};
+ghost use Rattle.std.specs.Prelude.{◌≡◌, ◌+◌, ◌*◌, ◌/◌, ◌%◌, ◌^◌, ◌<◌};
+ghost use Rattle.field.specs.Elements.{p, add_f, sub_f, neg_f, mul_f, pow_f, inv_f, is_zero_f, equal_f, equal_f_equivalence};
+ghost use Rattle.std.specs.Cmp.{on_equiv, partial_equiv_from_equiv};
+
+use std::ops::{Add, Mul, Neg, Sub};
 
 const TWO_POW_32: u64 = 4294967296;
 
 // The inverses of 0 to 255, 0 for 0.
-const SMALL_INVERSES: [u64; 256] = [
+static SMALL_INVERSES: [u64; 256] = [
     0,
     1,
     9223372034707292161,
@@ -268,41 +270,12 @@ const SMALL_INVERSES: [u64; 256] = [
     18374403896593350657,
 ];
 
-// A number of 128 bits: its upper and its lower 64.
-#[derive(Clone, Copy)]
-struct Wide(u64, u64);
-
-// The upper 64 bits of u * v, by halves of 32 bits. `high` and `low` share no intermediate value: so the compiler makes one
-// multiplication instruction of the two.
-fn high(u: u64, v: u64) -> u64
-    ensures { result ≡ u * v / 2 ^ 64 }
+// The inverse of a number below 256, looked up.
+fn small_inverse(k: u64) -> BFieldElement
+    requires { k < 256 }
+    ensures { result.0 ≡ inv_f k }
 {
-    let u0 = u % TWO_POW_32;
-    let u1 = u / TWO_POW_32;
-    let v0 = v % TWO_POW_32;
-    let v1 = v / TWO_POW_32;
-    let w0 = u0 * v0;
-    let t = u1 * v0 + w0 / TWO_POW_32;
-    let w1 = t % TWO_POW_32 + u0 * v1;
-    u1 * v1 + t / TWO_POW_32 + w1 / TWO_POW_32
-}
-
-// The lower 64 bits of u * v: what passes 2^64 is lost.
-fn low(u: u64, v: u64) -> u64
-    ensures { result ≡ u * v % 2 ^ 64 }
-{
-    let u0 = u % TWO_POW_32;
-    let u1 = u / TWO_POW_32;
-    let v0 = v % TWO_POW_32;
-    let v1 = v / TWO_POW_32;
-    let m = std::num::wrapping_add_u64(u0 * v1, u1 * v0);
-    std::num::wrapping_add_u64(m % TWO_POW_32 * TWO_POW_32, u0 * v0)
-}
-
-fn wide_mul(u: u64, v: u64) -> Wide
-    ensures { result.0 * 2 ^ 64 + result.1 ≡ u * v }
-{
-    Wide(high(u, v), low(u, v))
+    BFieldElement(SMALL_INVERSES[k as usize])
 }
 
 // A base element: its content, any number of 64 bits, stands for that number modulo P.
@@ -337,67 +310,24 @@ impl BFieldElement {
         BFieldElement::new(self.0).0
     }
 
-    // Both sides are reduced, so that one mend is enough.
-    pub fn add(self, other: Self) -> Self
-        ensures { result.0 ≡ add_f self.0 other.0 }
+    // The element of a number of 128 bits. Its upper half hh * 2^32 + hl counts hl * (2^32 - 1) - hh, for modulo P 2^64 is 2^32 - 1
+    // and 2^96 is -1.
+    fn fold(low: u64, high: u64) -> Self
+        ensures { result.0 ≡ (high * 2 ^ 64 + low) % p }
     {
-        let a = self.value();
-        let b = other.value();
-        let s = std::num::wrapping_add_u64(a, b);
-        if s < a {
-            BFieldElement(s + Self::EPSILON)
+        let hh = high / TWO_POW_32;
+        let t1 = high % TWO_POW_32 * Self::EPSILON;
+        let t0 = if low < hh {
+            low + (Self::P - hh)
         } else {
-            BFieldElement::new(s)
-        }
-    }
-
-    pub fn sub(self, other: Self) -> Self
-        ensures { result.0 ≡ sub_f self.0 other.0 }
-    {
-        let a = self.value();
-        let b = other.value();
-        if a < b {
-            BFieldElement(a + (Self::P - b))
-        } else {
-            BFieldElement(a - b)
-        }
-    }
-
-    pub fn neg(self) -> Self
-        ensures { result.0 ≡ neg_f self.0 }
-    {
-        let a = self.value();
-        if 0 < a {
-            BFieldElement(Self::P - a)
-        } else {
-            Self::ZERO
-        }
-    }
-
-    // The upper half hh * 2^32 + hl of w counts hl * (2^32 - 1) - hh, for modulo P 2^64 is 2^32 - 1 and 2^96 is -1.
-    fn fold(w: Wide) -> Self
-        ensures { result.0 ≡ (w.0 * 2 ^ 64 + w.1) % p }
-    {
-        let lo = w.1;
-        let hh = w.0 / TWO_POW_32;
-        let t1 = w.0 % TWO_POW_32 * Self::EPSILON;
-        let t0 = if lo < hh {
-            lo + (Self::P - hh)
-        } else {
-            lo - hh
+            low - hh
         };
-        let s = std::num::wrapping_add_u64(t0, t1);
+        let s = t0.wrapping_add(t1);
         if s < t1 {
             BFieldElement(s + Self::EPSILON)
         } else {
             BFieldElement::new(s)
         }
-    }
-
-    pub fn mul(self, other: Self) -> Self
-        ensures { result.0 ≡ mul_f self.0 other.0 }
-    {
-        BFieldElement::fold(wide_mul(self.0, other.0))
     }
 
     // The element to the power e, 1 for e = 0: by squares, one for each binary digit of e. The power that is asked for is always `power` times
@@ -410,52 +340,17 @@ impl BFieldElement {
         let mut rest = e;
         while rest != 0 {
             if rest % 2 == 1 {
-                power = power.mul(square);
+                power = power * square;
             }
-            square = square.mul(square);
+            square = square * square;
             rest /= 2;
         }
         power
     }
 
-    // Euclid's algorithm on P and a, two divisions in a turn. Modulo P, a * t1 is r1 and a * t0 is -r0; and t1 * r0 + t0 * r1
-    // is P, so that nothing wraps. P is prime: the remainders come down to 1.
+    // Euclid's algorithm on P and a, two divisions in a turn, down to a remainder below 256, whose inverse is looked up. Modulo P, a * t1 is
+    // r1 and a * t0 is -r0; and t1 * r0 + t0 * r1 is P, so that nothing wraps. P is prime: the remainders come down to 1.
     pub fn inverse_or_zero(self) -> Self
-        ensures { result.0 ≡ inv_f self.0 }
-    {
-        let a = self.value();
-        if a == 0 {
-            return Self::ZERO;
-        }
-        let mut r0 = Self::P;
-        let mut r1 = a;
-        let mut t0: u64 = 0;
-        let mut t1: u64 = 1;
-        while r1 != 1 {
-            let q = r0 / r1;
-            r0 = r0 % r1;
-            t0 = t0 + q * t1;
-            if r0 == 1 {
-                return BFieldElement(Self::P - t0);
-            }
-            let k = r1 / r0;
-            r1 = r1 % r0;
-            t1 = t1 + k * t0;
-        }
-        BFieldElement(t1)
-    }
-
-    // The inverses of 0 to 255, to be copied to a local once and lent: a constant array is made anew at each use.
-    pub fn small_inverses() -> [u64; 256]
-        ensures { result ≡ small_inverses }
-    {
-        SMALL_INVERSES
-    }
-
-    // The same as `inverse_or_zero`, given the table of small inverses: Euclid's algorithm down to a remainder below 256, whose inverse the
-    // table has.
-    pub fn inverse_by_table(self, small: &[u64; 256]) -> Self
-        requires { small.now ≡ small_inverses }
         ensures { result.0 ≡ inv_f self.0 }
     {
         let a = self.value();
@@ -471,38 +366,112 @@ impl BFieldElement {
             r0 = r0 % r1;
             t0 = t0 + first * t1;
             if r0 < 256 {
-                let i = small[r0 as usize];
-                return BFieldElement(t0).mul(BFieldElement(i)).neg();
+                return -(BFieldElement(t0) * small_inverse(r0));
             }
             let second = r1 / r0;
             r1 = r1 % r0;
             t1 = t1 + second * t0;
         }
-        let j = small[r1 as usize];
-        BFieldElement(t1).mul(BFieldElement(j))
+        BFieldElement(t1) * small_inverse(r1)
     }
 
-    // The inverse of half of x, rounded down, from that of x: twice it where x is even. `small` is the table of small inverses.
-    pub fn inverse_of_half(x: u64, inverse: Self, small: &[u64; 256]) -> Self
-        requires { (inverse.0 ≡ inv_f x) × (small.now ≡ small_inverses) }
+    // The inverse of half of x, rounded down, from that of x: twice it where x is even.
+    #[tactic(auto, using(crate::proofs::Inverses::inv_f_half))]
+    pub fn inverse_of_half(x: u64, inverse: Self) -> Self
+        requires { inverse.0 ≡ inv_f x }
         ensures { result.0 ≡ inv_f (x / 2) }
     {
         if x % 2 == 0 {
-            inverse.add(inverse)
+            inverse + inverse
         } else {
-            BFieldElement(x / 2).inverse_by_table(small)
+            BFieldElement(x / 2).inverse_or_zero()
         }
     }
 
+    #[tactic(auto, unfolding(crate::specs::Elements::is_zero_f))]
     pub fn is_zero(self) -> bool
         ensures { result ≡ is_zero_f self.0 }
     {
         self.0 == 0 || self.0 == Self::P
     }
+}
 
-    pub fn equals(self, other: Self) -> bool
-        ensures { result ≡ equal_f self.0 other.0 }
-    {
+impl Add for BFieldElement {
+    type Output = BFieldElement;
+
+    ghost add_gives = { λ a b r. r.0 ≡ add_f a.0 b.0 };
+
+    // Both sides are reduced, so that one mend is enough.
+    #[tactic(auto, unfolding(crate::specs::Elements::add_f))]
+    fn add(self, other: BFieldElement) -> BFieldElement {
+        let a = self.value();
+        let b = other.value();
+        let s = a.wrapping_add(b);
+        if s < a {
+            BFieldElement(s + Self::EPSILON)
+        } else {
+            BFieldElement::new(s)
+        }
+    }
+}
+
+impl Sub for BFieldElement {
+    type Output = BFieldElement;
+
+    ghost sub_gives = { λ a b r. r.0 ≡ sub_f a.0 b.0 };
+
+    #[tactic(auto, unfolding(crate::specs::Elements::sub_f))]
+    fn sub(self, other: BFieldElement) -> BFieldElement {
+        let a = self.value();
+        let b = other.value();
+        if a < b {
+            BFieldElement(a + (Self::P - b))
+        } else {
+            BFieldElement(a - b)
+        }
+    }
+}
+
+impl Neg for BFieldElement {
+    type Output = BFieldElement;
+
+    ghost neg_gives = { λ a r. r.0 ≡ neg_f a.0 };
+
+    #[tactic(auto, unfolding(crate::specs::Elements::neg_f))]
+    fn neg(self) -> BFieldElement {
+        let a = self.value();
+        if 0 < a {
+            BFieldElement(Self::P - a)
+        } else {
+            Self::ZERO
+        }
+    }
+}
+
+impl Mul for BFieldElement {
+    type Output = BFieldElement;
+
+    ghost mul_gives = { λ a b r. r.0 ≡ mul_f a.0 b.0 };
+
+    #[tactic(auto, unfolding(crate::specs::Elements::mul_f))]
+    fn mul(self, other: BFieldElement) -> BFieldElement {
+        let (low, high) = self.0.carrying_mul(other.0, 0);
+        BFieldElement::fold(low, high)
+    }
+}
+
+// Elements are told apart by their content modulo P.
+impl PartialEq for BFieldElement {
+    ghost eq = { λ a b. equal_f a.0 b.0 };
+
+    ghost laws = { partial_equiv_from_equiv (on_equiv (λ a. a.0) equal_f_equivalence) };
+
+    #[tactic(auto, unfolding(crate::specs::Elements::equal_f))]
+    fn eq(&self, other: &BFieldElement) -> bool {
         self.value() == other.value()
     }
+}
+
+impl Eq for BFieldElement {
+    ghost laws = { on_equiv (λ a. a.0) equal_f_equivalence };
 }

@@ -1,11 +1,9 @@
--- Padding: the padding row (`padding_row_lem`), one more padding row (`pad_turn`), and what each way out of `pad` leaves.
--- Assumes nothing.
+-- Padding: the last filled row (`last_row`), one more padding row (`pad_turn`), and what each way out of `pad` leaves. Assumes nothing.
 use Prim.Native.Nat.{ℕ, zero, suc, ◌+◌, ◌-◌, ◌*◌, ◌≤◌, ◌<◌}
 use mathlib.Core.Path.{◌≡◌, refl, sym, ap, ◌∙◌}
-use mathlib.Core.Bool.{true, false, cond, not}
+use mathlib.Core.Bool.{true, false, not}
 use mathlib.Core.List.{List, []}
 use native.Mathlib.Omega.{arith}
-use lib.Dec.{eqb}
 use lib.ListN.{length, replicate, length-replicate, replicate-append-replicate}
 use lib.Seq.{sets}
 use borrow.Author.Tests.{lt-ltb, le-ltb}
@@ -13,42 +11,20 @@ use Rattle.words.specs.Answers.{done, declined}
 use Rattle.words.specs.Outcomes.{Leaves}
 use Rattle.words.specs.declared.Refusal.{Refusal}
 use Rattle.words.specs.declared.Refusal.TheVariants.{Shape, Short, Unreduced}
-use Rattle.words.specs.declared.Judgement.TheVariants.{Declined}
+use Rattle.words.specs.Refusals.{Declined}
 use Rattle.words.proofs.Judgements.{decline_true, decline_false, decline_not_true, or_first, or_next}
 use Rattle.words.proofs.Outcomes.{leaves_done, leaves_declined}
 use Rattle.words.proofs.Sets.{sets_then}
-use Rattle.isa.specs.Opcodes.{op_lt}
 use Rattle.table.specs.Columns.{Row, main_width, row_at, row_count, table_shape, all_reduced}
 use Rattle.table.specs.RowWords.{row_words, table_words}
-use Rattle.fill.specs.Padding.{no_row, padding_row, last_filled, padded, pad_reason, pad_all}
-use Rattle.fill_sections.proofs.BitsMinus33.{first_number}
+use Rattle.fill.specs.Padding.{last_filled, padded, pad_reason, pad_all}
 use Rattle.fill.proofs.ListSections.{words_append, words_length}
 
--- ---- the last filled row and the padding row
-
-pub none_filled : (filled : ℕ) (table : List ℕ) → filled ≡ 0 → no_row ≡ last_filled table filled
-none_filled filled table e = rw e
+-- ---- the last filled row
 
 pub last_row : (table : List ℕ) (filled : ℕ) {row : Row} → (filled ≡ 0 → ⊥) → row ≡ row_at table (filled - 1) → row ≡ last_filled table filled
 last_row table zero h e = absurd (h refl)
 last_row table (suc i) h e = e ∙ ap (row_at table) (omega arith)
-
--- with the number at Bits 0, and the choice of a Result
-pub padding_row_lem : (last : Row) (result : ℕ) → result ≡ cond (eqb last.ci op_lt) 2 last.result
-    → (record {
-      copy_flag = 0;
-      bits = 0;
-      bits_minus33_inv = 15651782846776010939;
-      ci = last.ci;
-      lhs = last.lhs;
-      lhs_inv = last.lhs_inv;
-      rhs = 0;
-      rhs_inv = 0;
-      result = result;
-      lookup_multiplicity = 0;
-    }) ≡ padding_row last
-unfolding padding_row
-padding_row_lem last result e = rw (e, first_number)
 
 -- ---- one more padding row
 
@@ -106,3 +82,6 @@ module _ (table : List ℕ) (filled : ℕ) where
           leaves_done [] table (padded table filled)
           (or_next _ (decline_not_true Shape shape) ∙ or_next _ (decline_false Short (le-ltb _ _ room)) ∙ decline_not_true Unreduced h)
           refl e
+
+-- what `pad` is proved by: its loop and its ways out
+pub ruleset pad_steps = (pad_start, pad_turn, pad_shape, pad_short, pad_unreduced, pad_done)

@@ -1,8 +1,7 @@
 -- Extension (document 01, under that heading): the aux words after `extend`.
 use Rattle.std.specs.Prelude.{ℕ, not, ◌&&◌, List}
 use Rattle.words.specs.Outcomes.{Outcome, outcome}
-use Rattle.words.specs.Refusals.{decline_if, or_else}
-use Rattle.words.specs.declared.Judgement.{Judgement}
+use Rattle.words.specs.Refusals.{decline_if, or_else, Judgement}
 use Rattle.words.specs.declared.Refusal.TheVariants.{Shape, Unreduced, Flat}
 use Rattle.table.specs.Columns.{row_count, table_shape, aux_shape, all_reduced}
 use Rattle.table.specs.Challenges.{challenges_shape}

@@ -1,11 +1,11 @@
 -- Filling (document 01, under that heading): the sections of a list, joined, and what `fill` answers and leaves. The list that gets sections is
 -- `section_list`: "A fill .. leaves out keys whose count .. is 0" (request 11).
-use Rattle.std.specs.Prelude.{ℕ, not, List, [], ◌∷◌, ◌++◌, ltb}
+use Rattle.std.specs.Prelude.{ℕ, not, List, [], ◌∷◌, ◌++◌, ltb, Result, Ok, Err}
 use Rattle.std.proofs.lemmas.List.Edits.{sets}
 use Rattle.words.specs.Answers.{Answer, done, declined}
 use Rattle.words.specs.Outcomes.{Outcome, outcome}
-use Rattle.words.specs.Refusals.{decline_if, or_else}
-use Rattle.words.specs.declared.Judgement.{Judgement}
+use Rattle.words.specs.Refusals.{decline_if, or_else, Judgement}
+use Rattle.words.specs.declared.Refusal.{Refusal}
 use Rattle.words.specs.declared.Refusal.TheVariants.{Shape, Short}
 use Rattle.list.specs.Lists.{U32List, entry_at, multiplicity_at}
 use Rattle.list.specs.Heights.{section_places, list_height}
@@ -13,8 +13,6 @@ use Rattle.list.specs.Holds.{HeldList, section_list, judge_held}
 use Rattle.table.specs.Columns.{Row, row_count, table_shape}
 use Rattle.table.specs.RowWords.{table_words}
 use Rattle.fill_sections.specs.Sections.{section, rows_of}
-use Rattle.fill.specs.declared.Filled.{Filled}
-use Rattle.fill.specs.declared.Filled.TheVariants.{Rows, Refused}
 
 -- "Sections follow list order", joined: the rows of the sections of these places. Every entry of a list that is judged fine has a section
 -- (proofs/ListSections.antt: section_at_lem), so as many rows as the height says (rows_height)
@@ -40,7 +38,10 @@ filled l table = sets table 0 (table_words (sections l))
 unfoldable pub fill_all : HeldList → List ℕ → Outcome (List ℕ)
 fill_all h table = outcome (fill_reason h table) (list_height (section_list h) ∷ []) table (filled (section_list h) table)
 
--- what the answer of `fill` means
+-- what `fill` answers, the height or why it declines; and what the answer means
+abbrev pub Filled : Type 0
+Filled = Result ℕ Refusal
+
 abbrev pub filled_answer : Filled → Answer
-filled_answer (Rows height) = done (height ∷ [])
-filled_answer (Refused reason) = declined reason
+filled_answer (Ok height) = done (height ∷ [])
+filled_answer (Err reason) = declined reason

@@ -3,8 +3,7 @@
 use Rattle.std.specs.Prelude.{ℕ, zero, suc, ◌-◌, ◌*◌, cond, not, List, [], eqb, ltb, replicate}
 use Rattle.std.proofs.lemmas.List.Edits.{sets}
 use Rattle.words.specs.Outcomes.{Outcome, outcome}
-use Rattle.words.specs.Refusals.{decline_if, or_else}
-use Rattle.words.specs.declared.Judgement.{Judgement}
+use Rattle.words.specs.Refusals.{decline_if, or_else, Judgement}
 use Rattle.words.specs.declared.Refusal.TheVariants.{Shape, Short, Unreduced}
 use Rattle.isa.specs.Opcodes.{op_split, op_lt}
 use Rattle.table.specs.Columns.{Row, main_width, row_at, row_count, table_shape, all_reduced}

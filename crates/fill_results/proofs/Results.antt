@@ -1,20 +1,20 @@
--- Exactly the six opcodes have a Result: `ending_known`, `carry_known`, `ending_unknown`. Each goes through the six. Assumes nothing.
+-- Exactly the six opcodes have a Result: `ending_known`, `carry_known`, `ending_unknown`, `carry_unknown`, each by going through the six; and what
+-- words end a section (`end_zero`, `zero_end`). Assumes nothing.
 use Prim.Native.Nat.{ℕ}
-use mathlib.Core.Path.{◌≡◌}
-use mathlib.Core.Bool.{true, false}
-use mathlib.Core.Logic.{inl, inr}
+use mathlib.Core.Path.{◌≡◌, refl}
+use mathlib.Core.Bool.{Bool, true, false, ◌&&◌, ◌||◌}
+use mathlib.Core.Logic.{◌⊎◌, inl, inr}
 use native.Mathlib.Omega.{arith}
 use lib.Dec.{eqb}
-use borrow.Author.Tests.{ne_eqb}
+use borrow.Author.Tests.{eqb-true, ne_eqb}
 use Rattle.isa.specs.Opcodes.{op_split, op_lt, op_log2_floor, op_and, op_pop_count, op_pow, is_opcode}
-use Rattle.isa.proofs.Entries.{OneOfSix, opcode_cases, opcode_is}
-use Rattle.fill_results.specs.declared.Choice.{Choice}
-use Rattle.fill_results.specs.declared.Choice.TheVariants.{Value, Unknown}
-use Rattle.fill_results.specs.Results.{ending, carry}
+use Rattle.isa.proofs.Entries.{OneOfSix, opcode_cases, not_one_of_six}
+use Rattle.std.specs.Prelude.{Option, Some, None}
+use Rattle.fill_results.specs.Results.{is_end, ending, carry}
 
 -- a choice that is a Result
-pub data IsValue : Choice → Type 0 where
-  value : (v : ℕ) → IsValue (Value v)
+pub data IsValue : Option ℕ → Type 0 where
+  value : (v : ℕ) → IsValue (Some v)
 
 pub ending_known : (ci bits : ℕ) → is_opcode ci ≡ true → IsValue (ending ci bits)
 unfolding ending
@@ -51,8 +51,30 @@ not_six ci k = (
 )
   where
     no : OneOfSix ci → ⊥
-    no s = let t = opcode_is ci s in let z : ◌≡◌ {A = ℕ} 0 1 = cc in omega arith
+    no = not_one_of_six ci k
 
-pub ending_unknown : (ci bits : ℕ) → is_opcode ci ≡ false → ending ci bits ≡ Unknown
+pub ending_unknown : (ci bits : ℕ) → is_opcode ci ≡ false → ending ci bits ≡ None
 unfolding ending
 ending_unknown ci bits k = let n = not_six ci k in simp (n.0, n.1, n.2, n.3, n.4, n.5)
+
+pub carry_unknown : (ci copy_flag bits l r below : ℕ) → is_opcode ci ≡ false → carry ci copy_flag bits l r below ≡ None
+unfolding carry
+carry_unknown ci copy_flag bits l r below k = let n = not_six ci k in simp (n.0, n.1, n.2, n.3, n.4, n.5)
+
+-- ---- the end of a section
+
+pub end_zero : (ci l r : ℕ) → is_end ci l r ≡ true → (r ≡ 0) × ((l ≡ 0) ⊎ (ci ≡ op_pow))
+unfolding is_end
+end_zero ci l r e = go (eqb r 0) refl (eqb l 0) refl e where
+  go : (s : Bool) → eqb r 0 ≡ s → (t : Bool) → eqb l 0 ≡ t → (s && (t || eqb ci op_pow)) ≡ true → (r ≡ 0) × ((l ≡ 0) ⊎ (ci ≡ op_pow))
+  go true a true b h = (eqb-true r 0 a, inl (eqb-true l 0 b))
+  go true a false b h = (eqb-true r 0 a, inr (eqb-true ci op_pow h))
+  go false a t b h = absurd (let z : ◌≡◌ {A = ℕ} 0 1 = cc in omega arith)
+
+pub zero_end : (ci l r : ℕ) → r ≡ 0 → (l ≡ 0) ⊎ (ci ≡ op_pow) → is_end ci l r ≡ true
+unfolding is_end
+zero_end ci l r e (inl a) = rw (e, a)
+zero_end ci l r e (inr a) = rw (e, a) (either (eqb l 0)) where
+  either : (t : Bool) → (t || true) ≡ true
+  either true = refl
+  either false = refl

@@ -1,24 +1,22 @@
 -- The Result column (document 01, "Filling"): where a section ends, the Result of its end row, and each Result from that of the row below.
-use Rattle.std.specs.Prelude.{ℕ, ◌-◌, ◌/◌, ◌%◌, Bool, cond, ◌&&◌, ◌||◌, eqb, ltb}
+use Rattle.std.specs.Prelude.{ℕ, ◌-◌, ◌/◌, ◌%◌, Bool, cond, ◌&&◌, ◌||◌, eqb, ltb, Option, Some, None}
 use Rattle.field.specs.Elements.{p, add_f, mul_f}
 use Rattle.isa.specs.Opcodes.{op_split, op_lt, op_log2_floor, op_and, op_pop_count, op_pow}
-use Rattle.fill_results.specs.declared.Choice.{Choice}
-use Rattle.fill_results.specs.declared.Choice.TheVariants.{Value, Unknown}
 
 -- "A section ends when RHS is 0 and LHS is 0 or CI is pow."
 unfoldable pub is_end : (ci lhs rhs : ℕ) → Bool
 is_end ci lhs rhs = eqb rhs 0 && (eqb lhs 0 || eqb ci op_pow)
 
 -- "Ends: split 0, lt 2 (0 if Bits is 0), and 0, log_2_floor −1, pow 1, pop_count 0." No other number has one
-unfoldable pub ending : (ci bits : ℕ) → Choice
+unfoldable pub ending : (ci bits : ℕ) → Option ℕ
 ending ci bits =
-    cond (eqb ci op_split) (Value 0)
-    (cond (eqb ci op_lt) (Value (cond (eqb bits 0) 0 2))
-    (cond (eqb ci op_and) (Value 0)
-    (cond (eqb ci op_log2_floor) (Value (p - 1))
-    (cond (eqb ci op_pow) (Value 1)
-    (cond (eqb ci op_pop_count) (Value 0)
-    Unknown)))))
+    cond (eqb ci op_split) (Some 0)
+    (cond (eqb ci op_lt) (Some (cond (eqb bits 0) 0 2))
+    (cond (eqb ci op_and) (Some 0)
+    (cond (eqb ci op_log2_floor) (Some (p - 1))
+    (cond (eqb ci op_pow) (Some 1)
+    (cond (eqb ci op_pop_count) (Some 0)
+    None)))))
 
 -- "Carrying is as source document 000; for split the Result is copied." `below` is the Result of the row below; the lowest bits of
 -- LHS and RHS are those of this row
@@ -45,12 +43,12 @@ carry_and lhs rhs below = add_f (mul_f 2 below) (mul_f (lhs % 2) (rhs % 2))
 unfoldable pub carry_pop_count : (lhs below : ℕ) → ℕ
 carry_pop_count lhs below = add_f below (lhs % 2)
 
-unfoldable pub carry : (ci copy_flag bits lhs rhs below : ℕ) → Choice
+unfoldable pub carry : (ci copy_flag bits lhs rhs below : ℕ) → Option ℕ
 carry ci copy_flag bits lhs rhs below =
-    cond (eqb ci op_split) (Value below)
-    (cond (eqb ci op_lt) (Value (carry_lt copy_flag lhs rhs below))
-    (cond (eqb ci op_and) (Value (carry_and lhs rhs below))
-    (cond (eqb ci op_log2_floor) (Value (carry_log2_floor bits lhs below))
-    (cond (eqb ci op_pow) (Value (carry_pow lhs rhs below))
-    (cond (eqb ci op_pop_count) (Value (carry_pop_count lhs below))
-    Unknown)))))
+    cond (eqb ci op_split) (Some below)
+    (cond (eqb ci op_lt) (Some (carry_lt copy_flag lhs rhs below))
+    (cond (eqb ci op_and) (Some (carry_and lhs rhs below))
+    (cond (eqb ci op_log2_floor) (Some (carry_log2_floor bits lhs below))
+    (cond (eqb ci op_pow) (Some (carry_pow lhs rhs below))
+    (cond (eqb ci op_pop_count) (Some (carry_pop_count lhs below))
+    None)))))

@@ -41,7 +41,7 @@ whole_table : every is_inverse 0 stored ≡ true
 unfolding is_inverse stored
 whole_table = refl
 
-stored_inverse : (k : ℕ) → k < 33 → get_or stored k 0 ≡ bits_minus33_inverse k
+pub stored_inverse : (k : ℕ) → k < 33 → get_or stored k 0 ≡ bits_minus33_inverse k
 unfolding is_inverse bits_minus33_inverse
 stored_inverse k h =
     let x = get_or stored k 0 in
@@ -58,8 +58,3 @@ stored_is = is_table bits_minus33_inverse stored 33 stored_length_lem stored_inv
 pub bits_minus_33 : (k : ℕ) → k < 33 → get_or bits_minus33_inverses k 0 ≡ bits_minus33_inverse k
 unfolding bits_minus33_inverses
 bits_minus_33 k h = table_at bits_minus33_inverse 33 k h
-
--- the number at Bits 0, which a padding row has
-pub first_number : 15651782846776010939 ≡ bits_minus33_inverse 0
-unfolding stored
-first_number = stored_inverse 0 (omega arith)

@@ -19,30 +19,14 @@ use Rattle.isa.specs.Entries.{entry, dominant, height}
 use Rattle.isa.proofs.Entries.{Admissible, height_bound}
 use Rattle.isa.proofs.Entries.{dominant_end, end_dominant, dominant_half_pow, dominant_half, height_end, height_next, height_at_least}
 use Rattle.table.specs.Columns.{Row}
-use Rattle.fill_results.specs.declared.Choice.{Choice}
+use Rattle.std.specs.Prelude.{Option}
 use Rattle.fill_results.specs.Results.{is_end, ending, carry}
-use Rattle.fill_results.proofs.Results.{IsValue, value, ending_known, carry_known, ending_unknown}
+use Rattle.fill_results.proofs.Results.{end_zero, zero_end, IsValue, value, ending_known, carry_known, ending_unknown}
 use Rattle.fill_sections.specs.Sections.{Pending, first_pending, next_pending, is_last}
 use Rattle.fill_sections.specs.Sections.{section_row, next_lhs, Section, rows, no_section, above, above_section}
 use Rattle.fill_sections.specs.Sections.{section_from, section}
 
 -- ---- the end row
-
-pub end_zero : (ci l r : ℕ) → is_end ci l r ≡ true → (r ≡ 0) × ((l ≡ 0) ⊎ (ci ≡ op_pow))
-unfolding is_end
-end_zero ci l r e = go (eqb r 0) refl (eqb l 0) refl e where
-  go : (s : Bool) → eqb r 0 ≡ s → (t : Bool) → eqb l 0 ≡ t → (s && (t || eqb ci op_pow)) ≡ true → (r ≡ 0) × ((l ≡ 0) ⊎ (ci ≡ op_pow))
-  go true a true b h = (eqb-true r 0 a, inl (eqb-true l 0 b))
-  go true a false b h = (eqb-true r 0 a, inr (eqb-true ci op_pow h))
-  go false a t b h = absurd (let z : ◌≡◌ {A = ℕ} 0 1 = cc in omega arith)
-
-pub zero_end : (ci l r : ℕ) → r ≡ 0 → (l ≡ 0) ⊎ (ci ≡ op_pow) → is_end ci l r ≡ true
-unfolding is_end
-zero_end ci l r e (inl a) = rw (e, a)
-zero_end ci l r e (inr a) = rw (e, a) (either (eqb l 0)) where
-  either : (t : Bool) → (t || true) ≡ true
-  either true = refl
-  either false = refl
 
 pub end_height : (ci l r : ℕ) → is_end ci l r ≡ true → height (entry ci l r) ≡ 1
 end_height ci l r e = let z = end_zero ci l r e in height_end (entry ci l r) (dominant_end (entry ci l r) z.0 z.1)
@@ -140,10 +124,10 @@ pub record HasRows (n : ℕ) (q : Pending) (s : Section) : Type 0 where
   pub ends : OnlyLastEnds first more
 
 module _ (q : Pending) where
-  last_row : {s : Section} {c : Choice} → is_last q ≡ true → IsValue c → s ≡ above q c [] → HasRows 1 q s
+  last_row : {s : Section} {c : Option ℕ} → is_last q ≡ true → IsValue c → s ≡ above q c [] → HasRows 1 q s
   last_row e (value v) i = record { first = section_row q v; more = []; is = i; top = refl; count = refl; ends = last e }
 
-  row_above_lem : {s : Section} {c : Choice} {next : Row} {more : List Row} → is_last q ≡ false → IsValue c → OnlyLastEnds next more
+  row_above_lem : {s : Section} {c : Option ℕ} {next : Row} {more : List Row} → is_last q ≡ false → IsValue c → OnlyLastEnds next more
       → s ≡ above q c (next ∷ more) → HasRows (suc (length (next ∷ more))) q s
   row_above_lem {next = next} {more = more} e (value v) o i = record {
     first = section_row q v;

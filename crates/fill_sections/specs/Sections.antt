@@ -1,5 +1,5 @@
 -- Sections (document 01, "Filling"): the rows of an entry's section, and their words.
-use Rattle.std.specs.Prelude.{ℕ, zero, suc, ◌+◌, ◌/◌, Bool, cond, List, [], ◌∷◌, eqb}
+use Rattle.std.specs.Prelude.{ℕ, zero, suc, ◌+◌, ◌/◌, Bool, cond, List, [], ◌∷◌, eqb, Option, Some, None}
 use Rattle.field.specs.Elements.{sub_f, inv_f}
 use Rattle.field.specs.Tables.{table_of}
 use Rattle.isa.specs.Opcodes.{op_pow}
@@ -8,8 +8,6 @@ use Rattle.isa.specs.declared.U32TableEntry.{U32TableEntry}
 use Rattle.isa.specs.Entries.{lhs, rhs}
 use Rattle.table.specs.Columns.{Row}
 use Rattle.table.specs.RowWords.{table_words}
-use Rattle.fill_results.specs.declared.Choice.{Choice}
-use Rattle.fill_results.specs.declared.Choice.TheVariants.{Value, Unknown}
 use Rattle.fill_results.specs.Results.{is_end, ending, carry}
 
 -- "BitsMinus33Inv is the inverse of Bits − 33"
@@ -76,9 +74,9 @@ pub data Section : Type 0 where
   no_section : Section
 
 -- this row above the rows below it, its Result from a choice
-abbrev pub above : Pending → Choice → List Row → Section
-above row (Value result) below = rows (section_row row result) below
-above row Unknown below = no_section
+abbrev pub above : Pending → Option ℕ → List Row → Section
+above row (Some result) below = rows (section_row row result) below
+above row None below = no_section
 
 -- the Result is carried up from the row below
 abbrev pub above_section : Pending → Section → Section
@@ -103,9 +101,9 @@ unfoldable pub section : U32TableEntry → ℕ → Section
 section e multiplicity = section_from 34 (first_pending e multiplicity)
 
 -- the Result of a section's first row
-abbrev pub top_result : Section → Choice
-top_result (rows first more) = Value first.result
-top_result no_section = Unknown
+abbrev pub top_result : Section → Option ℕ
+top_result (rows first more) = Some first.result
+top_result no_section = None
 
 -- its rows, and their words
 abbrev pub rows_of : Section → List Row

@@ -3,20 +3,21 @@
 
 ghost use Rattle.std.specs.Prelude.{◌≡◌, [], ◌+◌, ◌*◌, ◌≤◌, ◌<◌, length};
 ghost use Rattle.std.proofs.lemmas.List.Edits.{sets};
-ghost use Rattle.field.specs.SmallInverses.{small_inverses};
 ghost use Rattle.isa.specs.Entries.{height};
 ghost use Rattle.table.specs.Columns.{main_width};
 ghost use Rattle.table.specs.Layouts.{row_of};
-ghost use Rattle.fill_sections.specs.Sections.{bits_minus33_inverses, section_row, above, top_result, section, section_words};
-ghost use Rattle.fill_sections.specs.PendingRows.{CarriesInverses, IsBelow, pending_of, rows_left, section_of};
+ghost use Rattle.fill_sections.specs.Sections.{bits_minus33_inverse, section_row, next_pending, top_result, section, section_words};
+ghost use Rattle.fill_sections.specs.PendingRows.{pending_of, rows_left, section_of};
+
+mod operand;
 
 use field::BFieldElement;
-use fill_results::Choice;
-use isa::U32TableEntry;
+use isa::{Opcode, U32TableEntry};
+use operand::Operand;
 use table::MainRow;
 
 // The inverses of Bits − 33 for Bits from 0 to 32.
-pub const BITS_MINUS_33_INVERSES: [u64; 33] = [
+static BITS_MINUS_33_INVERSES: [u64; 33] = [
     15651782846776010939,
     576460752169205760,
     7140675123644355221,
@@ -52,159 +53,105 @@ pub const BITS_MINUS_33_INVERSES: [u64; 33] = [
     18446744069414584320,
 ];
 
-// The table, to be copied to a local once and lent: a constant array is made anew at each use.
-pub fn bits_minus_33_inverses() -> [u64; 33]
-    ensures { result ≡ bits_minus33_inverses }
+// The inverse of Bits − 33, looked up.
+#[tactic(auto, using(crate::proofs::BitsMinus33::stored_inverse), unfolding(crate::proofs::BitsMinus33::stored))]
+pub fn bits_minus_33_inverse(bits: u64) -> BFieldElement
+    requires { bits < 33 }
+    ensures { result.0 ≡ bits_minus33_inverse bits }
 {
-    BITS_MINUS_33_INVERSES
+    BFieldElement(BITS_MINUS_33_INVERSES[bits as usize])
 }
 
-// A row whose Result is not known yet, with the inverses of its operands.
+// A row whose Result is not known yet.
 #[derive(Clone, Copy)]
 struct PendingRow {
     copy_flag: u64,
     bits: u64,
     ci: u64,
-    lhs: u64,
-    lhs_inverse: BFieldElement,
-    rhs: u64,
-    rhs_inverse: BFieldElement,
+    lhs: Operand,
+    rhs: Operand,
     multiplicity: u64,
 }
 
 impl PendingRow {
-    // The row below: the operands are halved, but LHS of pow, and their inverses follow.
-    fn next(self, small: &[u64; 256]) -> Self
-        requires { (self.bits < 33) × CarriesInverses self × (small.now ≡ small_inverses) }
-        ensures { IsBelow self result }
+    // The row below: the operands are halved, but LHS of pow.
+    fn next(self) -> Self
+        requires { self.bits < 33 }
+        ensures { pending_of result ≡ next_pending (pending_of self) }
     {
-        let lhs_inverse = self.lhs_inverse;
-        let rhs_inverse = self.rhs_inverse;
-        if self.ci == isa::POW {
-            PendingRow {
-                copy_flag: 0,
-                bits: self.bits + 1,
-                ci: self.ci,
-                lhs: self.lhs,
-                lhs_inverse,
-                rhs: self.rhs / 2,
-                rhs_inverse: BFieldElement::inverse_of_half(self.rhs, rhs_inverse, small),
-                multiplicity: 0,
-            }
+        let lhs = if self.ci == Opcode::Pow as u64 {
+            self.lhs
         } else {
-            PendingRow {
-                copy_flag: 0,
-                bits: self.bits + 1,
-                ci: self.ci,
-                lhs: self.lhs / 2,
-                lhs_inverse: BFieldElement::inverse_of_half(self.lhs, lhs_inverse, small),
-                rhs: self.rhs / 2,
-                rhs_inverse: BFieldElement::inverse_of_half(self.rhs, rhs_inverse, small),
-                multiplicity: 0,
-            }
+            self.lhs.half()
+        };
+        PendingRow {
+            copy_flag: 0,
+            bits: self.bits + 1,
+            lhs,
+            rhs: self.rhs.half(),
+            multiplicity: 0,
+            ..self
         }
     }
 
     // The row, once its Result is known.
-    fn row(self, res: u64, inverses: &[u64; 33]) -> MainRow
-        requires { (self.bits < 33) × CarriesInverses self × (inverses.now ≡ bits_minus33_inverses) }
+    #[tactic(auto, unfolding(table::specs::Layouts::row_of))]
+    fn row(self, res: u64) -> MainRow
+        requires { self.bits < 33 }
         ensures { row_of result ≡ section_row (pending_of self) res }
     {
-        let bits = self.bits as usize;
-        let lhs_inv = self.lhs_inverse;
-        let rhs_inv = self.rhs_inverse;
         MainRow {
             copy_flag: BFieldElement(self.copy_flag),
             bits: BFieldElement(self.bits),
-            bits_minus_33_inv: BFieldElement(inverses[bits]),
+            bits_minus_33_inv: bits_minus_33_inverse(self.bits),
             ci: BFieldElement(self.ci),
-            lhs: BFieldElement(self.lhs),
-            lhs_inv,
-            rhs: BFieldElement(self.rhs),
-            rhs_inv,
+            lhs: BFieldElement(self.lhs.value),
+            lhs_inv: self.lhs.inverse,
+            rhs: BFieldElement(self.rhs.value),
+            rhs_inv: self.rhs.inverse,
             result: BFieldElement(res),
             lookup_multiplicity: BFieldElement(self.multiplicity),
         }
     }
 }
 
-// Stores the row, where there is a Result for it.
-fn put_pending(
-    table: &mut [u64],
-    row: usize,
-    pending: PendingRow,
-    choice: Choice,
-    inverses: &[u64; 33],
-)
-    requires row_in_bounds { main_width * (row + 1) ≤ length table.old }
-    requires bits_bound { (pending.bits < 33) × CarriesInverses pending × (inverses.now ≡ bits_minus33_inverses) }
-    ensures { table.new ≡ sets table.old (main_width * row) (section_words (above (pending_of pending) choice [])) }
-{
-    if let Choice::Value(result) = choice {
-        pending.row(result, inverses).put(table, row);
-    }
-}
-
 // Fills a section's rows from `row` to its end, the end row first, and answers the Result of the first of them: each Result is carried up from
 // the row below. The rows that are left, and so the bits of the operands, get fewer.
-fn fill_section(
-    table: &mut [u64],
-    row: usize,
-    pending: PendingRow,
-    inverses: &[u64; 33],
-    small: &[u64; 256],
-) -> Choice
+#[tactic(auto, using(crate::proofs::PendingRows::left_at_least))]
+fn fill_section(table: &mut [u64], row: usize, pending: PendingRow) -> Option<u64>
     requires pending_in_bounds { main_width * (row + rows_left pending) ≤ length table.old }
-    requires pending_bound { (pending.bits + rows_left pending ≤ 33) × CarriesInverses pending × (inverses.now ≡ bits_minus33_inverses) × (small.now ≡ small_inverses) }
+    requires pending_bound { pending.bits + rows_left pending ≤ 33 }
     ensures value { result ≡ top_result (section_of pending) }
     ensures table_after { table.new ≡ sets table.old (main_width * row) (section_words (section_of pending)) }
 {
-    if fill_results::is_end(pending.ci, pending.lhs, pending.rhs) {
-        let choice = fill_results::ending(pending.ci, pending.bits);
-        put_pending(table, row, pending, choice, inverses);
-        return choice;
+    let lhs = pending.lhs.value;
+    let rhs = pending.rhs.value;
+    if fill_results::is_end(pending.ci, lhs, rhs) {
+        let res = fill_results::ending(pending.ci, pending.bits)?;
+        pending.row(res).put(table, row);
+        return Some(res);
     }
-    let below = fill_section(table, row + 1, pending.next(small), inverses, small);
-    let Choice::Value(result) = below else {
-        return Choice::Unknown;
-    };
-    let choice = fill_results::carry(
-        pending.ci,
-        pending.copy_flag,
-        pending.bits,
-        pending.lhs,
-        pending.rhs,
-        result,
-    );
-    put_pending(table, row, pending, choice, inverses);
-    choice
+    let below = fill_section(table, row + 1, pending.next())?;
+    let res = fill_results::carry(pending.ci, pending.copy_flag, pending.bits, lhs, rhs, below)?;
+    pending.row(res).put(table, row);
+    Some(res)
 }
 
 // Fills the section of an entry, from `row` on.
-pub fn fill_entry(
-    table: &mut [u64],
-    row: usize,
-    e: U32TableEntry,
-    multiplicity: u64,
-    inverses: &[u64; 33],
-    small: &[u64; 256],
-) -> Choice
+#[tactic(auto, using(crate::proofs::Sections::section_height))]
+pub fn fill_entry(table: &mut [u64], row: usize, e: U32TableEntry, multiplicity: u64) -> Option<u64>
     requires e_in_bounds { main_width * (row + height e) ≤ length table.old }
-    requires e_bound { (height e ≤ 33) × (inverses.now ≡ bits_minus33_inverses) × (small.now ≡ small_inverses) }
+    requires e_bound { height e ≤ 33 }
     ensures value { result ≡ top_result (section e multiplicity) }
     ensures table_after { table.new ≡ sets table.old (main_width * row) (section_words (section e multiplicity)) }
 {
-    let lhs = e.left_operand;
-    let rhs = e.right_operand;
     let first = PendingRow {
         copy_flag: 1,
         bits: 0,
         ci: e.opcode,
-        lhs,
-        lhs_inverse: BFieldElement(lhs).inverse_by_table(small),
-        rhs,
-        rhs_inverse: BFieldElement(rhs).inverse_by_table(small),
+        lhs: Operand::new(e.left_operand),
+        rhs: Operand::new(e.right_operand),
         multiplicity,
     };
-    fill_section(table, row, first, inverses, small)
+    fill_section(table, row, first)
 }

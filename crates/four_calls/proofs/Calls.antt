@@ -13,9 +13,8 @@ use borrow.Author.Tests.{ltb-false, le-ltb}
 use Rattle.words.specs.Limits.{max_rows}
 use Rattle.words.specs.Places.{places_from}
 use Rattle.words.specs.Answers.{Answer, done}
-use Rattle.words.specs.Refusals.{decline_if}
+use Rattle.words.specs.Refusals.{decline_if, Fine}
 use Rattle.words.specs.declared.Refusal.TheVariants.{Shape, Short, Unreduced}
-use Rattle.words.specs.declared.Judgement.TheVariants.{Fine}
 use Rattle.words.proofs.Judgements.{or_both, or_next, decline_fine, decline_false, decline_not_fine, decline_not_true}
 use Rattle.words.specs.Outcomes.{Outcome}
 use Rattle.words.proofs.Outcomes.{outcome_fine, done_fine}

@@ -11,8 +11,7 @@ use Rattle.field.proofs.Powers.{pow_f_is}
 use Rattle.xfield.proofs.Laws.{x_cubed}
 use Rattle.words.specs.Answers.{done}
 use Rattle.words.specs.Places.{places_from}
-use Rattle.words.specs.Refusals.{first_reason}
-use Rattle.words.specs.declared.Judgement.TheVariants.{Fine}
+use Rattle.words.specs.Refusals.{first_reason, Fine}
 use Rattle.isa.specs.Opcodes.{op_lt, op_log2_floor, op_pop_count, op_pow, is_opcode}
 use Rattle.isa.specs.PlainFunctions.{plain_lt, floor_log2, plain_pow, one_bits, plain_result}
 use Rattle.isa.specs.declared.U32TableEntry.{U32TableEntry}
@@ -24,7 +23,7 @@ use Rattle.list.specs.Counted.{counted_to, counted}
 use Rattle.list.specs.Holds.{HeldList, hold_at, held_shape, judge_hold, open_hold, section_list, judge_held}
 use Rattle.table.specs.Columns.{Row, main_width, row_at, table_shape}
 use Rattle.table.specs.RowWords.{table_words}
-use Rattle.fill_results.specs.declared.Choice.TheVariants.{Value}
+use Rattle.std.specs.Prelude.{Some}
 use Rattle.fill_results.specs.Results.{is_end, ending}
 use Rattle.fill_sections.specs.Sections.{section_row, first_pending, section_from, section, top_result}
 use Rattle.fill.specs.Filling.{sections_at}
@@ -45,7 +44,7 @@ has_result : (e : U32TableEntry) {result : ℕ} → judge_entry e ≡ Fine → a
 unfolding first_row
 has_result e fine same plain =
     let a : Admissible e = subst Admissible same (fine_admissible e fine) in
-    record { plain = plain; first_row_lem = ap top_result (honest_section e 1 a (lit< tt)).section_is ∙ ap Value plain }
+    record { plain = plain; first_row_lem = ap top_result (honest_section e 1 a (lit< tt)).section_is ∙ ap Some plain }
 
 -- ---- padding below the one row of lt 0, 0
 abbrev list : HeldList

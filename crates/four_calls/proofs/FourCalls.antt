@@ -15,7 +15,7 @@ use borrow.Author.Tests.{eq-eqb, ne_eqb}
 use Rattle.xfield.specs.Extension.{Ext, zero_x, HasInverse}
 use Rattle.words.specs.Answers.{done}
 use Rattle.words.specs.declared.Refusal.TheVariants.{Shape, Short, Unreduced}
-use Rattle.words.specs.declared.Judgement.TheVariants.{Fine}
+use Rattle.words.specs.Refusals.{Fine}
 use Rattle.words.specs.Outcomes.{Outcome}
 use Rattle.words.proofs.Outcomes.{outcome_fine, done_fine}
 use Rattle.words.proofs.Judgements.{or_next, decline_false, decline_not_true}

@@ -21,7 +21,7 @@ use Rattle.isa.proofs.PlainLaws.{pow_step_zero, pow_step_one}
 use Rattle.isa.proofs.PlainLaws.{one_bits_zero, one_bits_step, one_bits_le, result_below}
 use Rattle.check_plain.specs.Plain.{LtEqual, LtCarried, known_0, known_1, bits_01, bits_10, bits_same}
 use Rattle.check_plain.proofs.Steps.{low_bit}
-use Rattle.fill_results.specs.declared.Choice.TheVariants.{Value}
+use Rattle.std.specs.Prelude.{Some}
 use Rattle.fill_results.specs.Results.{ending, carry, carry_lt, carry_log2_floor, carry_pow, carry_and, carry_pop_count}
 use Rattle.fill_sections.specs.Sections.{next_lhs}
 
@@ -234,7 +234,7 @@ module _ (lhs rhs : ℕ) where
 abbrev CarryAt : ℕ → Type 0
 CarryAt ci =
     (copy_flag bits lhs rhs : ℕ) → (copy_flag ≡ 0) ⊎ (copy_flag ≡ 1) → lhs < p
-    → carry ci copy_flag bits lhs rhs (row_result ci 0 (bits + 1) (next_lhs ci lhs) (rhs / 2)) ≡ Value (row_result ci copy_flag bits lhs rhs)
+    → carry ci copy_flag bits lhs rhs (row_result ci 0 (bits + 1) (next_lhs ci lhs) (rhs / 2)) ≡ Some (row_result ci copy_flag bits lhs rhs)
 
 carry_split : CarryAt op_split
 unfolding carry row_result plain_result
@@ -242,23 +242,23 @@ carry_split copy_flag bits lhs rhs f l = refl
 
 carry_lt_lem : CarryAt op_lt
 unfolding carry row_result
-carry_lt_lem copy_flag bits lhs rhs f l = ap Value (carry_lt_of (lt_carried copy_flag lhs rhs f))
+carry_lt_lem copy_flag bits lhs rhs f l = ap Some (carry_lt_of (lt_carried copy_flag lhs rhs f))
 
 carry_log : CarryAt op_log2_floor
 unfolding carry row_result
-carry_log copy_flag bits lhs rhs f l = ap Value (carry_log_of (log_carried bits (bits + 1) lhs (inl refl)))
+carry_log copy_flag bits lhs rhs f l = ap Some (carry_log_of (log_carried bits (bits + 1) lhs (inl refl)))
 
 carry_and_lem : CarryAt op_and
 unfolding carry row_result plain_result
-carry_and_lem copy_flag bits lhs rhs f l = ap Value (carry_and_is lhs rhs l)
+carry_and_lem copy_flag bits lhs rhs f l = ap Some (carry_and_is lhs rhs l)
 
 carry_pop_count_lem : CarryAt op_pop_count
 unfolding carry row_result plain_result
-carry_pop_count_lem copy_flag bits lhs rhs f l = ap Value (carry_pop_count_is lhs rhs l)
+carry_pop_count_lem copy_flag bits lhs rhs f l = ap Some (carry_pop_count_is lhs rhs l)
 
 carry_pow_lem : CarryAt op_pow
 unfolding carry row_result plain_result
-carry_pow_lem copy_flag bits lhs rhs f l = ap Value (carry_pow_is lhs rhs)
+carry_pow_lem copy_flag bits lhs rhs f l = ap Some (carry_pow_is lhs rhs)
 
 pub carry_is : (ci : ℕ) → OneOfSix ci → CarryAt ci
 carry_is = each_opcode CarryAt carry_split carry_lt_lem carry_log carry_and_lem carry_pop_count_lem carry_pow_lem
@@ -267,7 +267,7 @@ carry_is = each_opcode CarryAt carry_split carry_lt_lem carry_log carry_and_lem 
 abbrev EndingAt : ℕ → Type 0
 EndingAt ci =
     (copy_flag bits lhs rhs : ℕ) → ((copy_flag ≡ 0) × (bits ≢ 0)) ⊎ ((copy_flag ≡ 1) × (bits ≡ 0)) → rhs ≡ 0 → (ci ≢ op_pow → lhs ≡ 0)
-    → ending ci bits ≡ Value (row_result ci copy_flag bits lhs rhs)
+    → ending ci bits ≡ Some (row_result ci copy_flag bits lhs rhs)
 
 ending_split : EndingAt op_split
 unfolding ending row_result plain_result
@@ -276,25 +276,25 @@ ending_split copy_flag bits lhs rhs f r l = refl
 ending_lt : EndingAt op_lt
 unfolding ending row_result
 ending_lt copy_flag bits lhs rhs (inl f) r l =
-    rw (ne_eqb bits 0 f.1) (ap Value (sym (lt_equal_below copy_flag f.0 (l (λ e. omega arith) ∙ sym r))))
+    rw (ne_eqb bits 0 f.1) (ap Some (sym (lt_equal_below copy_flag f.0 (l (λ e. omega arith) ∙ sym r))))
 ending_lt copy_flag bits lhs rhs (inr f) r l =
-    rw (eq-eqb bits 0 f.1) (ap Value (sym (lt_equal_first copy_flag f.0 (l (λ e. omega arith) ∙ sym r))))
+    rw (eq-eqb bits 0 f.1) (ap Some (sym (lt_equal_first copy_flag f.0 (l (λ e. omega arith) ∙ sym r))))
 
 ending_log : EndingAt op_log2_floor
 unfolding ending row_result
-ending_log copy_flag bits lhs rhs f r l = ap Value (sym (log_none bits (l (λ e. omega arith))))
+ending_log copy_flag bits lhs rhs f r l = ap Some (sym (log_none bits (l (λ e. omega arith))))
 
 ending_and : EndingAt op_and
 unfolding ending row_result plain_result
-ending_and copy_flag bits lhs rhs f r l = ap Value (sym (ap (λ (x : ℕ). plain_and x rhs) (l (λ e. omega arith)) ∙ and_zero_left rhs))
+ending_and copy_flag bits lhs rhs f r l = ap Some (sym (ap (λ (x : ℕ). plain_and x rhs) (l (λ e. omega arith)) ∙ and_zero_left rhs))
 
 ending_pop_count : EndingAt op_pop_count
 unfolding ending row_result plain_result
-ending_pop_count copy_flag bits lhs rhs f r l = ap Value (sym (ap one_bits (l (λ e. omega arith)) ∙ one_bits_zero))
+ending_pop_count copy_flag bits lhs rhs f r l = ap Some (sym (ap one_bits (l (λ e. omega arith)) ∙ one_bits_zero))
 
 ending_pow : EndingAt op_pow
 unfolding ending row_result plain_result
-ending_pow copy_flag bits lhs rhs f r l = ap Value (sym (ap (plain_pow lhs) r ∙ pow-zero lhs))
+ending_pow copy_flag bits lhs rhs f r l = ap Some (sym (ap (plain_pow lhs) r ∙ pow-zero lhs))
 
 pub ending_is : (ci : ℕ) → OneOfSix ci → EndingAt ci
 ending_is = each_opcode EndingAt ending_split ending_lt ending_log ending_and ending_pop_count ending_pow

@@ -11,10 +11,8 @@ use borrow.Author.Tests.{eq-eqb, ne_eqb}
 use Rattle.xfield.specs.Extension.{zero_x}
 use Rattle.words.specs.Answers.{Answer, done, declined}
 use Rattle.words.specs.Outcomes.{Outcome}
-use Rattle.words.specs.Refusals.{refusal_number}
+use Rattle.words.specs.Refusals.{refusal_number, Judgement, Fine, Declined}
 use Rattle.words.specs.declared.Refusal.{Refusal}
-use Rattle.words.specs.declared.Judgement.{Judgement}
-use Rattle.words.specs.declared.Judgement.TheVariants.{Fine, Declined}
 use Rattle.words.proofs.Answers.{number_positive, declined_not_done}
 use Rattle.list.specs.Lists.{U32List}
 use Rattle.list.specs.Heights.{list_height}

@@ -19,12 +19,13 @@ use Rattle.isa.proofs.Entries.{height_at_least, height_bound}
 use Rattle.table.specs.Columns.{Row}
 use Rattle.air.proofs.Descent.{EndRow}
 use Rattle.air.proofs.Lists.{TransitionZero}
-use Rattle.fill_results.specs.declared.Choice.TheVariants.{Value}
+use Rattle.std.specs.Prelude.{Some}
 use Rattle.fill_results.specs.Results.{ending, carry}
 use Rattle.fill_sections.specs.Sections.{Pending, first_pending, next_pending, is_last}
 use Rattle.fill_sections.specs.Sections.{section_row, next_lhs, Section, rows, no_section, above, above_section}
 use Rattle.fill_sections.specs.Sections.{section_from, section, first_row}
-use Rattle.fill_sections.proofs.Sections.{end_zero, end_height, next_height, section_end, section_next}
+use Rattle.fill_results.proofs.Results.{end_zero}
+use Rattle.fill_sections.proofs.Sections.{end_height, next_height, section_end, section_next}
 use Rattle.four_calls.proofs.Results.{row_result, carry_is, ending_is, first_is}
 use Rattle.four_calls.proofs.HonestRows.{HonestRow, lhs_below}
 use Rattle.four_calls.proofs.Steps.{Follows, next_other, next_pow, follows_zero}
@@ -168,7 +169,7 @@ upper_row q w e (rows next more) s =
     flag_bit (inl f) = inl f.0
     flag_bit (inr f) = inr f.0
 
-    carried : carry q.ci q.copy_flag q.bits q.lhs q.rhs next.result ≡ Value (result_of q)
+    carried : carry q.ci q.copy_flag q.bits q.lhs q.rhs next.result ≡ Some (result_of q)
     carried =
         ap (λ (row : Row). carry q.ci q.copy_flag q.bits q.lhs q.rhs row.result) s.first_is
         ∙ carry_is q.ci w.known q.copy_flag q.bits q.lhs q.rhs (flag_bit w.flag) (lhs_below (honest_row q w))

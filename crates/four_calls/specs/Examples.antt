@@ -10,7 +10,7 @@ use Rattle.isa.specs.declared.U32TableEntry.{U32TableEntry}
 use Rattle.isa.specs.Entries.{lhs, rhs, entry, height}
 use Rattle.list.specs.Holds.{HeldList, held_list, section_list}
 use Rattle.table.specs.Columns.{main_width, row_at}
-use Rattle.fill_results.specs.declared.Choice.TheVariants.{Value}
+use Rattle.std.specs.Prelude.{Some}
 use Rattle.fill_sections.specs.Sections.{section, top_result}
 use Rattle.fill.specs.Filling.{fill_all}
 use Rattle.four_calls.specs.FourCalls.{first_rows_of, padded_table}
@@ -46,7 +46,7 @@ one_entry e multiplicity = held_list (record { capacity = 1; used = 1 }) (e.opco
 -- the plain function of an entry, and the Result of the first row of its section
 pub record HasResult (e : U32TableEntry) (result : ℕ) : Type 0 where
   pub plain : plain_result e.opcode (lhs e) (rhs e) ≡ result
-  pub first_row_lem : top_result (section e 1) ≡ Value result
+  pub first_row_lem : top_result (section e 1) ≡ Some result
 
 -- the Result of the row below the section, on a table with one row more, after fill and pad
 pub record HasPadding (e : U32TableEntry) (result : ℕ) : Type 0 where

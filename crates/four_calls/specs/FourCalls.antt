@@ -3,8 +3,7 @@
 -- proofs/FourCalls.antt). Of a list with its holds it is `section_list` whose first rows the table has: that of the keys whose multiplicity is not 0.
 use Rattle.std.specs.Prelude.{ℕ, zero, suc, ◌≡◌, Bool, true, cond, not, ◌&&◌, List, [], ◌∷◌, ◌++◌, eqb}
 use Rattle.words.specs.Answers.{done}
-use Rattle.words.specs.Refusals.{decline_if, or_else}
-use Rattle.words.specs.declared.Judgement.{Judgement}
+use Rattle.words.specs.Refusals.{decline_if, or_else, Judgement}
 use Rattle.words.specs.declared.Refusal.TheVariants.{Shape, Unreduced, Flat}
 use Rattle.xfield.specs.Extension.{Ext, zero_x, add_x, scale_x, is_zero_x}
 use Rattle.xfield.specs.Inverses.{inv_x}

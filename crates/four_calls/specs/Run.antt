@@ -2,7 +2,7 @@
 use Rattle.std.specs.Prelude.{ℕ, ◌<◌, ◌≡◌, cond, List, eqb, get_or}
 use Rattle.words.specs.Answers.{Answer}
 use Rattle.words.specs.Outcomes.{Outcome, Leaves}
-use Rattle.words.specs.declared.Judgement.TheVariants.{Fine}
+use Rattle.words.specs.Refusals.{Fine}
 use Rattle.list.specs.Holds.{HeldList, section_list}
 use Rattle.table.specs.Columns.{row_count}
 use Rattle.air.specs.Check.{zero_answer, check_all}

@@ -12,13 +12,11 @@ use lib.Dec.{eqb, ltb}
 use Rattle.field.specs.Elements.{p}
 use Rattle.words.specs.declared.Refusal.{Refusal}
 use Rattle.words.specs.declared.Refusal.TheVariants.{Stranger, Wide, BareLog}
-use Rattle.words.specs.declared.Judgement.{Judgement}
-use Rattle.words.specs.declared.Judgement.TheVariants.{Fine, Declined}
-use Rattle.words.specs.Refusals.{decline_if, or_else}
+use Rattle.words.specs.Refusals.{Judgement, Fine, Declined, decline_if, or_else}
 use Rattle.words.proofs.Judgements.{decline_fine, decline_not_fine, decline_not_true, decline_false, or_next, or_both}
 use Rattle.isa.specs.Opcodes.{op_split, op_lt, op_log2_floor, op_and, op_pop_count, op_pow, is_opcode}
 use Rattle.isa.specs.declared.U32TableEntry.{U32TableEntry}
-use Rattle.isa.specs.declared.Admission.TheVariants.{Admitted, Refused}
+use Rattle.std.specs.Prelude.{Ok, Err}
 use Rattle.isa.specs.Entries.{lhs, rhs, entry, lhs_limit, rhs_limit, judge_as_it_is, judge_entry, admit_stored, admitted, admission, admit, dominant, height_of, height}
 use Rattle.isa.proofs.Logarithm.{height_zero, height_half, height_below, height_positive}
 
@@ -50,6 +48,9 @@ opcode_is o (inr (inr (inl e))) = rw e
 opcode_is o (inr (inr (inr (inl e)))) = rw e
 opcode_is o (inr (inr (inr (inr (inl e))))) = rw e
 opcode_is o (inr (inr (inr (inr (inr e))))) = rw e
+
+pub not_one_of_six : (o : ℕ) → is_opcode o ≡ false → OneOfSix o → ⊥
+not_one_of_six o e k = let z : ◌≡◌ {A = Bool} true false = sym (opcode_is o k) ∙ e in absurd (let w : ◌≡◌ {A = ℕ} 1 0 = ap (λ b. cond b 1 0) z in omega (arith, w))
 
 -- an opcode fits a byte
 pub opcode_byte : (o : ℕ) → is_opcode o ≡ true → o < 256
@@ -206,28 +207,28 @@ module _ (e : U32TableEntry) where
   pub admitted_again : judge_entry e ≡ Fine → admitted (admitted e) ≡ admitted e
   admitted_again f = admissible_same (admitted e) (fine_admissible e f)
 
-  pub admit_fine : judge_entry e ≡ Fine → admit e ≡ Admitted (admitted e)
+  pub admit_fine : judge_entry e ≡ Fine → admit e ≡ Ok (admitted e)
   unfolding admit
   admit_fine f = rw f
 
-  pub admit_declined : {k : Refusal} → judge_entry e ≡ Declined k → admit e ≡ Refused k
+  pub admit_declined : {k : Refusal} → judge_entry e ≡ Declined k → admit e ≡ Err k
   unfolding admit
   admit_declined f = rw f
 
   -- what an answer tells, whichever rule judged
-  pub admission_admitted : (j : Judgement) {a : U32TableEntry} → admission j e ≡ Admitted a → (j ≡ Fine) × (a ≡ admitted e)
+  pub admission_admitted : (j : Judgement) {a : U32TableEntry} → admission j e ≡ Ok a → (j ≡ Fine) × (a ≡ admitted e)
   admission_admitted Fine f = (refl, cc)
   admission_admitted (Declined k) f = absurd (let w : ◌≡◌ {A = ℕ} 0 1 = cc in omega arith)
 
-  pub admission_refused : (j : Judgement) {k : Refusal} → admission j e ≡ Refused k → j ≡ Declined k
+  pub admission_refused : (j : Judgement) {k : Refusal} → admission j e ≡ Err k → j ≡ Declined k
   admission_refused Fine f = absurd (let w : ◌≡◌ {A = ℕ} 0 1 = cc in omega arith)
   admission_refused (Declined i) f = cc
 
-  pub admit_admitted : {a : U32TableEntry} → admit e ≡ Admitted a → (judge_entry e ≡ Fine) × (a ≡ admitted e)
+  pub admit_admitted : {a : U32TableEntry} → admit e ≡ Ok a → (judge_entry e ≡ Fine) × (a ≡ admitted e)
   unfolding admit
   admit_admitted f = admission_admitted (judge_entry e) f
 
-  pub admit_refused : {k : Refusal} → admit e ≡ Refused k → judge_entry e ≡ Declined k
+  pub admit_refused : {k : Refusal} → admit e ≡ Err k → judge_entry e ≡ Declined k
   unfolding admit
   admit_refused f = admission_refused (judge_entry e) f
 
@@ -238,12 +239,12 @@ pow_fine : (l r : ℕ) → l < p → r < rhs_limit → Admissible (entry op_pow 
 unfolding is_opcode
 pow_fine l r h k = record { known = refl; left = h; right = k; log = λ e. absurd (omega arith) }
 
-pub pow_admits : (l r : ℕ) → r < rhs_limit → admit (entry op_pow l r) ≡ Admitted (entry op_pow (l % p) r)
+pub pow_admits : (l r : ℕ) → r < rhs_limit → admit (entry op_pow l r) ≡ Ok (entry op_pow (l % p) r)
 unfolding judge_entry
 pow_admits l r k =
     let e = entry op_pow l r in
     let same : admitted e ≡ entry op_pow (l % p) r = admitted_pow e refl in
-    admit_fine e (ap judge_as_it_is same ∙ admissible_judged _ (pow_fine (l % p) r (mod-lt l (omega arith)) k)) ∙ ap Admitted same
+    admit_fine e (ap judge_as_it_is same ∙ admissible_judged _ (pow_fine (l % p) r (mod-lt l (omega arith)) k)) ∙ ap Ok same
 
 pub pow_stored : (l r : ℕ) → p ≤ l → admit_stored (entry op_pow l r) ≡ Declined Wide
 unfolding admit_stored is_opcode

@@ -1,4 +1,5 @@
 pub mod Comparing
 pub mod Entries
 pub mod Logarithm
+pub mod Opcodes
 pub mod PlainLaws

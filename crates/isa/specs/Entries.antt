@@ -1,17 +1,14 @@
 -- Entry and height (document 01, under that heading): admission, the height of an entry, the order of entries.
-use Rattle.std.specs.Prelude.{ℕ, ◌+◌, ◌%◌, max, cond, not, ◌&&◌, List, [], ◌∷◌, eqb, ltb}
+use Rattle.std.specs.Prelude.{ℕ, ◌+◌, ◌%◌, max, cond, not, ◌&&◌, List, [], ◌∷◌, eqb, ltb, Result, Ok, Err}
 use Rattle.field.specs.Elements.{p}
+use Rattle.words.specs.declared.Refusal.{Refusal}
 use Rattle.words.specs.declared.Refusal.TheVariants.{Stranger, Wide, BareLog}
-use Rattle.words.specs.declared.Judgement.{Judgement}
-use Rattle.words.specs.declared.Judgement.TheVariants.{Fine, Declined}
-use Rattle.words.specs.Refusals.{decline_if, or_else}
+use Rattle.words.specs.Refusals.{Judgement, Fine, Declined, decline_if, or_else}
 use Rattle.isa.specs.Opcodes.{op_log2_floor, op_pow, is_opcode}
 use Rattle.isa.specs.PlainFunctions.{floor_log2}
 use Rattle.isa.specs.declared.U32TableEntry.{U32TableEntry}
-use Rattle.isa.specs.declared.Admission.{Admission}
-use Rattle.isa.specs.declared.Admission.TheVariants.{Admitted, Refused}
-use Rattle.isa.specs.declared.Order.{Order}
-use Rattle.isa.specs.declared.Order.TheVariants.{Less, Equal, Greater}
+use Rattle.std.specs.declared.cmp.Ordering.{Ordering}
+use Rattle.std.specs.declared.cmp.Ordering.TheVariants.{Less, Equal, Greater}
 
 -- "An entry is opcode, LHS, RHS."
 abbrev pub lhs : U32TableEntry → ℕ
@@ -57,9 +54,12 @@ unfoldable pub admit_stored : U32TableEntry → Judgement
 admit_stored e = judge_as_it_is e
 
 -- what is handed back after a rule's judgement
+abbrev pub Admission : Type 0
+Admission = Result U32TableEntry Refusal
+
 abbrev pub admission : Judgement → U32TableEntry → Admission
-admission Fine e = Admitted (admitted e)
-admission (Declined reason) e = Refused reason
+admission Fine e = Ok (admitted e)
+admission (Declined reason) e = Err reason
 
 unfoldable pub admit : U32TableEntry → Admission
 admit e = admission (judge_entry e) e
@@ -77,9 +77,9 @@ unfoldable pub height : U32TableEntry → ℕ
 height e = height_of (dominant e)
 
 -- "less, equal or greater, by opcode, then LHS, then RHS, on any words"
-abbrev pub compare_words : ℕ → ℕ → Order → Order
+abbrev pub compare_words : ℕ → ℕ → Ordering → Ordering
 compare_words a b next = cond (ltb a b) Less (cond (ltb b a) Greater next)
 
-unfoldable pub compare_entries : U32TableEntry → U32TableEntry → Order
+unfoldable pub compare_entries : U32TableEntry → U32TableEntry → Ordering
 compare_entries x y =
     compare_words x.opcode y.opcode (compare_words (lhs x) (lhs y) (compare_words (rhs x) (rhs y) Equal))

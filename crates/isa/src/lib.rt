@@ -1,59 +1,72 @@
 // The six instructions of the U32 table, and an entry of it: admission, height, order.
 #![tactic(auto)]
 
-ghost use Rattle.std.specs.Prelude.{◌≡◌, ◌≤◌, not, ◌&&◌, ltb};
-ghost use Rattle.words.specs.declared.Refusal.TheVariants.{Wide};
+ghost use Rattle.std.specs.Prelude.{◌≡◌, ◌≤◌, not, ◌&&◌, eqb, ltb};
+ghost use Rattle.words.specs.declared.Refusal.TheVariants.{Wide, BareLog};
 ghost use Rattle.words.specs.Refusals.{decline_if};
-ghost use Rattle.isa.specs.Entries.{lhs, rhs, rhs_limit, entry, judge_as_it_is, admit_stored, admitted, dominant, height, compare_words, compare_entries};
-ghost use Rattle.isa.specs.Entries.{admission as admission_of, admit as admit_of};
+ghost use Rattle.isa.specs.Opcodes.{op_log2_floor, opcode_number, Decodes};
+ghost use Rattle.isa.specs.Entries.{lhs, rhs, lhs_limit, rhs_limit, entry, judge_as_it_is, admit_stored, admitted, admission, dominant, height, compare_entries};
+ghost use Rattle.isa.specs.Entries.{admit as admit_of};
 ghost use Rattle.isa.specs.PlainFunctions.{floor_log2, plain_result};
 
 use field::BFieldElement;
-use words::{Judgement, Refusal};
+use std::cmp::Ordering;
+use words::Refusal;
 
-pub const SPLIT: u64 = 4;
+// The six, each with its number.
+#[derive(Clone, Copy, PartialEq, Eq, Debug)]
+pub enum Opcode {
+    Split = 4,
+    Lt = 6,
+    Log2Floor = 12,
+    And = 14,
+    PopCount = 28,
+    Pow = 30,
+}
 
-pub const LT: u64 = 6;
+impl Opcode {
+    // The left operand of the instruction is below this.
+    fn left_limit(self) -> u64
+        ensures { result ≡ lhs_limit (opcode_number self) }
+    {
+        if self == Opcode::Pow {
+            BFieldElement::P
+        } else {
+            OPERAND_LIMIT
+        }
+    }
+}
 
-pub const LOG_2_FLOOR: u64 = 12;
+impl TryFrom<u64> for Opcode {
+    type Error = Refusal;
 
-pub const AND: u64 = 14;
+    ghost try_from_gives = { Decodes };
 
-pub const POP_COUNT: u64 = 28;
-
-pub const POW: u64 = 30;
-
-// Instructions of a trace that are no opcodes of the table.
-pub const DIV_MOD: u64 = 20;
-
-pub const XOR: u64 = 22;
-
-pub const MERKLE_STEP: u64 = 36;
-
-pub const MERKLE_STEP_MEM: u64 = 44;
+    // Reason 2: the word is the number of none.
+    fn try_from(word: u64) -> Result<Self, Refusal>
+        ensures { Decodes word result }
+    {
+        match word {
+            4 => Ok(Opcode::Split),
+            6 => Ok(Opcode::Lt),
+            12 => Ok(Opcode::Log2Floor),
+            14 => Ok(Opcode::And),
+            28 => Ok(Opcode::PopCount),
+            30 => Ok(Opcode::Pow),
+            _ => Err(Refusal::Stranger),
+        }
+    }
+}
 
 // Operands are below this, but the left one of pow is taken modulo p.
 pub const OPERAND_LIMIT: u64 = 4294967296;
 
-// An executed U32 instruction with its operands; any words.
-#[derive(Clone, Copy)]
+// An executed U32 instruction with its operands; any words. Entries are ordered by opcode, then the left operand, then the right one.
+#[derive(Clone, Copy, PartialEq, Eq, PartialOrd, Ord, Debug)]
 pub struct U32TableEntry {
     pub opcode: u64,
     pub left_operand: u64,
     pub right_operand: u64,
-}
-
-#[derive(Clone, Copy)]
-pub enum Admission {
-    Admitted(U32TableEntry),
-    Refused(Refusal),
-}
-
-#[derive(Clone, Copy)]
-pub enum Order {
-    Less,
-    Equal,
-    Greater,
 }
 
 impl U32TableEntry {
@@ -71,90 +84,75 @@ impl U32TableEntry {
     }
 
     // Reason 3: an operand is outside its range, which for the left one is `limit`.
-    fn judge_operands(self, limit: u64) -> Judgement
+    fn judge_operands(self, limit: u64) -> Result<(), Refusal>
         ensures { result ≡ decline_if (not (ltb (lhs self) limit && ltb (rhs self) rhs_limit)) Wide }
     {
-        if self.left_operand < limit {
-            if self.right_operand < OPERAND_LIMIT {
-                return Judgement::Fine;
-            }
+        if self.left_operand < limit && self.right_operand < OPERAND_LIMIT {
+            Ok(())
+        } else {
+            Err(Refusal::Wide)
         }
-        Judgement::Declined(Refusal::Wide)
+    }
+
+    // Reason 4: log_2_floor of 0.
+    fn judge_logarithm(self) -> Result<(), Refusal>
+        ensures { result ≡ decline_if (eqb self.opcode op_log2_floor && eqb (lhs self) 0) BareLog }
+    {
+        if self.opcode == Opcode::Log2Floor as u64 && self.left_operand == 0 {
+            Err(Refusal::BareLog)
+        } else {
+            Ok(())
+        }
     }
 
     // The first of the reasons 2, 3, 4 against the entry as it stands.
-    pub fn judge(self) -> Judgement
+    pub fn judge(self) -> Result<(), Refusal>
         ensures { result ≡ judge_as_it_is self }
     {
-        let opcode = self.opcode;
-        match opcode {
-            SPLIT | LT | AND | POP_COUNT => self.judge_operands(OPERAND_LIMIT),
-            POW => self.judge_operands(BFieldElement::P),
-            LOG_2_FLOOR => {
-                match self.judge_operands(OPERAND_LIMIT) {
-                    Judgement::Fine => if self.left_operand == 0 {
-                        Judgement::Declined(Refusal::BareLog)
-                    } else {
-                        Judgement::Fine
-                    },
-                    Judgement::Declined(reason) => Judgement::Declined(reason),
-                }
-            }
-            _ => Judgement::Declined(Refusal::Stranger),
-        }
+        let opcode = Opcode::try_from(self.opcode)?;
+        self.judge_operands(opcode.left_limit())?;
+        self.judge_logarithm()
     }
 
     // The entry that admission hands back: the left operand of pow is taken modulo p.
     pub fn reduced(self) -> Self
         ensures { result ≡ admitted self }
     {
-        let opcode = self.opcode;
-        if opcode == POW {
-            return Self {
-                opcode,
+        if self.opcode == Opcode::Pow as u64 {
+            Self {
                 left_operand: BFieldElement::new(self.left_operand).0,
-                right_operand: self.right_operand,
-            };
-        }
-        self
-    }
-
-    // What is handed back after a judgement of the entry.
-    fn admission(self, judgement: Judgement) -> Admission
-        ensures { result ≡ admission_of judgement self }
-    {
-        match judgement {
-            Judgement::Fine => Admission::Admitted(self.reduced()),
-            Judgement::Declined(reason) => Admission::Refused(reason),
+                ..self
+            }
+        } else {
+            self
         }
     }
 
     // The entry as it is admitted, or why it is refused: it is the reduced one that is judged.
-    pub fn admit(self) -> Admission
+    pub fn admit(self) -> Result<Self, Refusal>
         ensures { result ≡ admit_of self }
     {
-        self.admission(self.reduced().judge())
+        let entry = self.reduced();
+        entry.judge()?;
+        Ok(entry)
     }
 
     // The same for an entry in stored bytes, which is judged as it stands there.
-    pub fn admit_stored(self) -> Admission
-        ensures { result ≡ admission_of (admit_stored self) self }
+    pub fn admit_stored(self) -> Result<Self, Refusal>
+        ensures { result ≡ admission (admit_stored self) self }
     {
-        let judgement = self.judge();
-        self.admission(judgement)
+        self.judge()?;
+        Ok(self.reduced())
     }
 
     // The operand that decides how many rows the entry takes.
     fn dominant_operand(self) -> u64
         ensures { result ≡ dominant self }
     {
-        if self.opcode == POW {
-            return self.right_operand;
-        }
-        if self.left_operand < self.right_operand {
-            self.right_operand
+        if self.opcode != Opcode::Pow as u64 {
+            self.left_operand.max(self.right_operand)
         } else {
-            self.left_operand
+            self.right_operand
         }
     }
 
@@ -175,41 +173,22 @@ impl U32TableEntry {
     pub fn plain_result(self) -> u64
         ensures { result ≡ plain_result self.opcode (lhs self) (rhs self) }
     {
-        let opcode = self.opcode;
-        match opcode {
-            LT => if self.left_operand < self.right_operand {
-                1
-            } else {
-                0
-            },
-            AND => self.left_operand & self.right_operand,
-            LOG_2_FLOOR => floor_log2(self.left_operand),
-            POW => BFieldElement(self.left_operand).pow(self.right_operand).0,
-            POP_COUNT => u64::count_ones(self.left_operand) as u64,
-            _ => 0,
+        match Opcode::try_from(self.opcode) {
+            Ok(Opcode::Lt) => u64::from(self.left_operand < self.right_operand),
+            Ok(Opcode::And) => self.left_operand & self.right_operand,
+            Ok(Opcode::Log2Floor) => floor_log2(self.left_operand),
+            Ok(Opcode::Pow) => BFieldElement(self.left_operand).pow(self.right_operand).0,
+            Ok(Opcode::PopCount) => u64::from(self.left_operand.count_ones()),
+            Ok(Opcode::Split) => 0,
+            Err(_) => 0,
         }
     }
 
-    // By opcode, then the left operand, then the right one.
-    pub fn compare(self, other: U32TableEntry) -> Order
+    // The order of the two.
+    pub fn compare(self, other: U32TableEntry) -> Ordering
         ensures { result ≡ compare_entries self other }
     {
-        let by_right = compare_words(self.right_operand, other.right_operand, Order::Equal);
-        let by_left = compare_words(self.left_operand, other.left_operand, by_right);
-        compare_words(self.opcode, other.opcode, by_left)
-    }
-}
-
-// The order of a and b, or `next` where they are equal.
-fn compare_words(a: u64, b: u64, next: Order) -> Order
-    ensures { result ≡ compare_words a b next }
-{
-    if a < b {
-        Order::Less
-    } else if b < a {
-        Order::Greater
-    } else {
-        next
+        self.cmp(&other)
     }
 }
 

@@ -1,18 +1,17 @@
--- What a search finds. find_hit, find_miss and find_none are its steps, for a loop that goes from place i to n. find_within, find_holds and
--- find_first say what the place is: the first used one whose entry is the key's, or `used` where none is. find_cong: a search asks the entries at
+-- What a search finds. find_eights passes the first eights that are told apart from the key, and find_at ends at the first place that holds it. find_within,
+-- find_holds and find_first say what the place is: the first used one whose entry is the key's, or `used` where none is. find_cong: a search asks the entries at
 -- its places alone. find_more: one place more is found before, or tested last. Assumes nothing.
 use Prim.Native.Nat.{ℕ, zero, suc, ◌+◌, ◌*◌, ◌-◌, ◌≤◌, ◌<◌}
 use mathlib.Core.Path.{◌≡◌, refl, sym, ap, ◌∙◌, subst}
 use mathlib.Core.Bool.{Bool, true, false, cond, ◌&&◌}
 use mathlib.Core.Logic.{◌≢◌, ◌⊎◌, inl, inr, ⊎_elim}
 use mathlib.Core.List.{List}
-use native.Mathlib.Nat.{eq-or-lt_of_le, add-zero}
+use native.Mathlib.Nat.{eq-or-lt_of_le, add-zero, sub-zero}
 use native.Mathlib.Omega.{arith}
 use native.Mathlib.Numerals.{add-one}
 use lib.Dec.{eqb, ltb}
 use lib.ListN.{get_or}
-use borrow.Author.Count.{below_none, below_more}
-use borrow.Author.Tests.{eqb-true, eq-eqb, ne_eqb, lt-ltb, le-ltb}
+use borrow.Author.Tests.{eqb-true, eq-eqb, lt-ltb, le-ltb}
 use Rattle.isa.specs.declared.U32TableEntry.{U32TableEntry}
 use Rattle.field.specs.Elements.{p}
 use Rattle.isa.specs.Opcodes.{op_pow}
@@ -23,6 +22,12 @@ use Rattle.list.specs.Keys.{same_key, find_from, find_key}
 use Rattle.list.specs.Eights.{EightDiffer, other_word}
 
 -- ---- equal keys
+
+-- `==` of entries is `same_key`: it compares their words
+pub equal_is_same : (a b : U32TableEntry) {equal : Bool}
+    → equal ≡ (eqb a.opcode b.opcode && (eqb (lhs a) (lhs b) && eqb (rhs a) (rhs b))) → equal ≡ same_key a b
+unfolding same_key
+equal_is_same a b e = e
 
 both_true : (a b : Bool) → (a && b) ≡ true → (a ≡ true) × (b ≡ true)
 both_true true b h = (refl, h)
@@ -46,15 +51,15 @@ same_key_self a = simp (eq-eqb a.opcode a.opcode refl, eq-eqb (lhs a) (lhs a) re
 -- ---- a search
 
 module _ (l : U32List) (e : U32TableEntry) where
-  pub find_hit : (i n : ℕ) → i < n → same_key (entry_at l i) e ≡ true → find_from l e i (n - i) ≡ i
+  find_hit : (i n : ℕ) → i < n → same_key (entry_at l i) e ≡ true → find_from l e i (n - i) ≡ i
   unfolding find_from
   find_hit i n h s = let d : n - i ≡ suc (n - (i + 1)) = omega arith in rw d (simp s)
 
-  pub find_miss : (i n : ℕ) → i < n → same_key (entry_at l i) e ≡ false → find_from l e i (n - i) ≡ find_from l e (i + 1) (n - (i + 1))
+  find_miss : (i n : ℕ) → i < n → same_key (entry_at l i) e ≡ false → find_from l e i (n - i) ≡ find_from l e (i + 1) (n - (i + 1))
   unfolding find_from
   find_miss i n h s = let d : n - i ≡ suc (n - (i + 1)) = omega arith in rw d (simp (s, add-one i))
 
-  pub find_none : (i n : ℕ) → n ≤ i → find_from l e i (n - i) ≡ i
+  find_none : (i n : ℕ) → n ≤ i → find_from l e i (n - i) ≡ i
   unfolding find_from
   find_none i n h = let d : n - i ≡ 0 = omega arith in rw d
 
@@ -115,18 +120,10 @@ find_more l e i (suc n) = go (find_more l e (suc i) n) (same_key (entry_at l i) 
 
 -- ---- eight places with another LHS are passed at once
 
--- the cases of the other word
+-- the other word, where there is one
 pub other_word_fits : (e : U32TableEntry) → e.opcode ≡ op_pow → lhs e < 4294967295 → other_word e ≡ lhs e + p
 unfolding other_word
 other_word_fits e k h = rw (eq-eqb e.opcode op_pow k, lt-ltb (lhs e) 4294967295 h)
-
-pub other_word_past : (e : U32TableEntry) → e.opcode ≡ op_pow → 4294967295 ≤ lhs e → other_word e ≡ lhs e
-unfolding other_word
-other_word_past e k h = rw (eq-eqb e.opcode op_pow k, le-ltb (lhs e) 4294967295 h)
-
-pub other_word_none : (e : U32TableEntry) → e.opcode ≢ op_pow → other_word e ≡ lhs e
-unfolding other_word
-other_word_none e k = rw (ne_eqb e.opcode op_pow k)
 
 -- which words stand for LHS of the key e, at a place whose entry it is
 word_of : (x e : U32TableEntry) → lhs x < 18446744073709551616 → admitted x ≡ e → (lhs x ≡ lhs e) ⊎ (lhs x ≡ other_word e)
@@ -175,20 +172,21 @@ module _ (l : U32List) (e : U32TableEntry) where
   find_eight w i next n q h d =
       find_misses 8 i n (omega arith) (λ j b. differ_by_lhs w (i + j) (d.0 j b) (d.1 j b)) ∙ ap (λ (j : ℕ). find_from l e j (n - j)) q
 
-pub eight_differ : (keys : List ℕ) (i lhs : ℕ)
-    → get_or keys (entry_width * i + 1) 0 ≢ lhs → get_or keys (entry_width * i + 4) 0 ≢ lhs → get_or keys (entry_width * i + 7) 0 ≢ lhs → get_or keys (entry_width * i + 10) 0 ≢ lhs
-    → get_or keys (entry_width * i + 13) 0 ≢ lhs → get_or keys (entry_width * i + 16) 0 ≢ lhs → get_or keys (entry_width * i + 19) 0 ≢ lhs → get_or keys (entry_width * i + 22) 0 ≢ lhs
-    → EightDiffer keys i lhs
-unfolding EightDiffer
-eight_differ keys i lhs a b c d e f g h =
-    below_more P 7 (below_more P 6 (below_more P 5 (below_more P 4 (below_more P 3 (below_more P 2 (below_more P 1 (below_more P 0
-    (below_none P) (at 0 a)) (at 1 b)) (at 2 c)) (at 3 d)) (at 4 e)) (at 5 f)) (at 6 g)) (at 7 h)
-  where
-    P : ℕ → Type 0
-    P k = get_or keys (entry_width * (i + k) + 1) 0 ≢ lhs
+  -- the first eights, told apart one by one
+  pub find_eights : Words l.keys → (m n : ℕ) → 8 * m ≤ n
+      → ((k : ℕ) → k < m → (EightDiffer l.keys (8 * k) (lhs e)) × (EightDiffer l.keys (8 * k) (other_word e)))
+      → find_from l e 0 n ≡ find_from l e (8 * m) (n - 8 * m)
+  find_eights w zero n h d = ap (find_from l e 0) (sym (sub-zero n))
+  find_eights w (suc m) n h d =
+      find_eights w m n (omega arith) (λ k b. d k (omega arith)) ∙ find_eight w (8 * m) (8 * suc m) n (omega arith) h (d m (omega arith))
 
-    at : (k : ℕ) → get_or keys (entry_width * i + (entry_width * k + 1)) 0 ≢ lhs → P k
-    at k n = subst (λ (j : ℕ). get_or keys j 0 ≢ lhs) (omega arith) n
+  -- the first of the places from i on that holds the key, or n
+  pub find_at : (i m n : ℕ) → i ≤ m → m ≤ n → ((k : ℕ) → i ≤ k → k < m → same_key (entry_at l k) e ≡ false)
+      → (m < n → same_key (entry_at l m) e ≡ true) → find_from l e i (n - i) ≡ m
+  find_at i m n a b none hit =
+      find_misses (m - i) i n (omega arith) (λ j c. none (i + j) (omega arith) (omega arith))
+      ∙ ap (λ (j : ℕ). find_from l e j (n - j)) (omega arith)
+      ∙ ⊎_elim (λ (q : m ≡ n). find_none l e m n (omega arith)) (λ (q : m < n). find_hit l e m n q (hit q)) (eq-or-lt_of_le b)
 
 -- ---- the first used place
 

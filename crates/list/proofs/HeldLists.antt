@@ -2,21 +2,22 @@
 --   held_shaped, held_shape_fine: the shape test finds nothing exactly where the list's does and there is a hold a place.
 --   no_hold, closed: 15 finds nothing exactly where no used place has a hold.
 --   held_told, held_fine: the judge finds nothing exactly where the shape is right, no hold is open and the list that gets sections is judged fine.
---   full_by_count, full_by_holds, not_full_by_both: count plus holds and one more pass the limit, by tests that add nothing.
 -- Assumes nothing.
-use Prim.Native.Nat.{ℕ, ◌+◌, ◌-◌, ◌≤◌, ◌<◌}
-use mathlib.Core.Path.{◌≡◌, ◌∙◌}
-use mathlib.Core.Bool.{true, false}
+use Prim.Native.Nat.{ℕ, zero, suc, ◌+◌, ◌≤◌, ◌<◌}
+use mathlib.Core.Path.{◌≡◌, refl, sym, ap, ◌∙◌}
+use mathlib.Core.Bool.{Bool, true, false}
+use mathlib.Core.Logic.{◌≢◌, ⊎_elim}
+use native.Mathlib.Nat.{eq-or-lt_of_le}
+use lib.Dec.{eqb}
 use native.Mathlib.Omega.{arith}
 use lib.ListN.{length}
-use borrow.Author.Tests.{eqb-true, lt-ltb, le-ltb, eq-eqb, ne_eqb}
-use Rattle.words.specs.Limits.{multiplicity_limit}
-use Rattle.words.specs.declared.Judgement.TheVariants.{Fine, Declined}
+use borrow.Author.Tests.{eqb-true, eqb-false, eq-eqb, ne_eqb}
+use Rattle.std.specs.Prelude.{Ok, Err}
+use Rattle.words.specs.Refusals.{Fine, Declined, or_else, first_reason}
 use Rattle.words.specs.declared.Refusal.{Refusal}
 use Rattle.words.specs.declared.Refusal.TheVariants.{Shape, OpenHold}
-use Rattle.words.proofs.Judgements.{decline_not_true, decline_not_fine, or_next, or_both, first_fine, first_none}
-use Rattle.list.specs.declared.Judged.TheVariants.{Height, Refused}
-use Rattle.list.specs.Lists.{capacity, used, list_shape, count_full, judge_list}
+use Rattle.words.proofs.Judgements.{decline_not_true, decline_not_fine, or_next, or_first, or_both, first_fine, first_none}
+use Rattle.list.specs.Lists.{capacity, used, list_shape, judge_list}
 use Rattle.list.specs.Heights.{list_height, judged_list}
 use Rattle.list.specs.Holds.{HeldList, hold_at, held_shape, judge_hold, open_hold, section_list, judge_held, judged_held}
 use Rattle.list.proofs.JudgedLists.{Shaped, shaped, shape_fine, judged_as_height, judged_as_refused}
@@ -48,13 +49,30 @@ module _ (h : HeldList) where
   unfolding open_hold judge_hold
   closed each = first_none (judge_hold h) 0 (used h.list) (λ i a b. decline_not_true OpenHold (eq-eqb _ _ (each i (omega arith))))
 
-  pub hold_open : (i : ℕ) → (hold_at h i ≡ 0 → ⊥) → judge_hold h i ≡ Declined OpenHold
+  hold_open : (i : ℕ) → (hold_at h i ≡ 0 → ⊥) → judge_hold h i ≡ Declined OpenHold
   unfolding judge_hold
   hold_open i n = rw (ne_eqb (hold_at h i) 0 n)
 
-  pub hold_closed : (i : ℕ) → hold_at h i ≡ 0 → judge_hold h i ≡ Fine
+  hold_closed : (i : ℕ) → hold_at h i ≡ 0 → judge_hold h i ≡ Fine
   unfolding judge_hold
   hold_closed i e = decline_not_true OpenHold (eq-eqb _ _ e)
+
+  -- 15 is found where some place has a hold
+  open_among : (i n k : ℕ) → i ≤ k → k < i + n → hold_at h k ≢ 0 → first_reason (judge_hold h) i n ≡ Declined OpenHold
+  unfolding first_reason
+  open_among i zero k p q f = absurd (omega arith)
+  open_among i (suc n) k p q f = go (λ b. open_among (suc i) n k b (omega arith) f) (eqb (hold_at h i) 0) refl where
+    go : (i < k → first_reason (judge_hold h) (suc i) n ≡ Declined OpenHold) → (t : Bool) → eqb (hold_at h i) 0 ≡ t
+        → or_else (judge_hold h i) (first_reason (judge_hold h) (suc i) n) ≡ Declined OpenHold
+    go rest true e =
+        let z = eqb-true (hold_at h i) 0 e in
+        or_next _ (hold_closed i z)
+        ∙ rest (⊎_elim (λ (d : i ≡ k). absurd (f (ap (hold_at h) (sym d) ∙ z))) (λ (d : i < k). d) (eq-or-lt_of_le p))
+    go rest false e = or_first _ (hold_open i (eqb-false (hold_at h i) 0 e))
+
+  pub not_closed : (i : ℕ) → i < used h.list → hold_at h i ≢ 0 → open_hold h ≡ Declined OpenHold
+  unfolding open_hold
+  not_closed i b f = open_among 0 (used h.list) i (omega arith) (omega arith) f
 
   -- ---- the judge
 
@@ -75,12 +93,12 @@ module _ (h : HeldList) where
 
   -- ---- the list judged, with its height
 
-  pub judged_held_shape : {k : Refusal} → held_shape h ≡ Declined k → judged_held h ≡ Refused k
+  pub judged_held_shape : {k : Refusal} → held_shape h ≡ Declined k → judged_held h ≡ Err k
   unfolding judged_held judge_held
   judged_held_shape e = rw e
 
   module _ (shape : held_shape h ≡ Fine) where
-    pub judged_held_open : {k : Refusal} → open_hold h ≡ Declined k → judged_held h ≡ Refused k
+    pub judged_held_open : {k : Refusal} → open_hold h ≡ Declined k → judged_held h ≡ Err k
     unfolding judged_held judge_held
     judged_held_open e = rw (shape, e)
 
@@ -90,24 +108,10 @@ module _ (h : HeldList) where
 
   -- ---- what an answer of `judge_held` tells
 
-  pub held_height : (n : ℕ) → Height n ≡ judged_held h → (judge_held h ≡ Fine) × (n ≡ list_height (section_list h))
+  pub held_height : (n : ℕ) → Ok n ≡ judged_held h → (judge_held h ≡ Fine) × (n ≡ list_height (section_list h))
   unfolding judged_held
   held_height n e = judged_as_height (judge_held h) (list_height (section_list h)) n e
 
-  pub held_refused : (k : Refusal) → Refused k ≡ judged_held h → judge_held h ≡ Declined k
+  pub held_refused : (k : Refusal) → Err k ≡ judged_held h → judge_held h ≡ Declined k
   unfolding judged_held
   held_refused k e = judged_as_refused (judge_held h) (list_height (section_list h)) k e
-
--- ---- 5, of count plus holds
-
-pub full_by_count : (m holds : ℕ) → multiplicity_limit ≤ m → count_full (m + holds + 1) ≡ true
-unfolding count_full
-full_by_count m holds a = lt-ltb multiplicity_limit (m + holds + 1) (omega arith)
-
-pub full_by_holds : (m holds : ℕ) → multiplicity_limit - m ≤ holds → count_full (m + holds + 1) ≡ true
-unfolding count_full
-full_by_holds m holds a = lt-ltb multiplicity_limit (m + holds + 1) (omega arith)
-
-pub not_full_by_both : (m holds : ℕ) → m < multiplicity_limit → holds < multiplicity_limit - m → count_full (m + holds + 1) ≡ false
-unfolding count_full
-not_full_by_both m holds a b = le-ltb multiplicity_limit (m + holds + 1) (omega arith)

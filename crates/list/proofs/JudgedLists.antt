@@ -18,20 +18,16 @@ use lib.ListN.{length}
 use borrow.Author.Tests.{ltb-true, ltb-false, eqb-true, not-false, lt-ltb, le-ltb, eq-eqb}
 use Rattle.field.specs.Elements.{p}
 use Rattle.words.specs.Limits.{max_places, multiplicity_limit}
-use Rattle.words.specs.Refusals.{first_reason}
-use Rattle.words.specs.declared.Judgement.{Judgement}
-use Rattle.words.specs.declared.Judgement.TheVariants.{Fine, Declined}
+use Rattle.words.specs.Refusals.{first_reason, Judgement, Fine, Declined}
 use Rattle.words.specs.declared.Refusal.{Refusal}
 use Rattle.words.specs.declared.Refusal.TheVariants.{Shape, CountFull}
 use Rattle.words.specs.Places.{places_from, places}
 use Rattle.words.proofs.Places.{places_more}
 use Rattle.words.proofs.Judgements.{decline_true, decline_false, decline_fine, or_next, or_first, or_both, first_fine, first_none}
 use Rattle.isa.specs.declared.U32TableEntry.{U32TableEntry}
-use Rattle.isa.specs.declared.Admission.{Admission}
-use Rattle.isa.specs.declared.Admission.TheVariants.{Admitted, Refused as NotAdmitted}
-use Rattle.isa.specs.Entries.{entry_width, judge_entry, admitted, admission, admit, height}
+use Rattle.std.specs.Prelude.{Ok, Err}
+use Rattle.isa.specs.Entries.{Admission, entry_width, judge_entry, admitted, admission, admit, height}
 use Rattle.isa.proofs.Entries.{Admissible, fine_admissible, admission_admitted, admission_refused, admit_admitted, admit_refused, height_admitted}
-use Rattle.list.specs.declared.Judged.TheVariants.{Height, Refused}
 use Rattle.list.specs.Lists.{U32List, capacity, used, key_at, multiplicity_at, entry_at, list_shape, count_full, judge_entry_by, judge_place_by, judge_place, judge_list}
 use Rattle.list.specs.Heights.{entries_at, section_entries, sum_heights, list_height}
 use Rattle.list.specs.Heights.{judged_as, judged_places, judged_list}
@@ -74,20 +70,20 @@ shape_fine l h =
 -- ---- what an answer of `admit` tells of the entry e that it was asked of
 
 pub admitted_told : {e asked x : U32TableEntry} {answer : Admission}
-    → asked ≡ e → answer ≡ admit asked → answer ≡ Admitted x → (judge_entry e ≡ Fine) × (x ≡ admitted e)
+    → asked ≡ e → answer ≡ admit asked → answer ≡ Ok x → (judge_entry e ≡ Fine) × (x ≡ admitted e)
 admitted_told {e} {asked} at told is = rw (← at) (admit_admitted asked (sym told ∙ is))
 
 pub refused_told : {e asked : U32TableEntry} {k : Refusal} {answer : Admission}
-    → asked ≡ e → answer ≡ admit asked → answer ≡ NotAdmitted k → judge_entry e ≡ Declined k
+    → asked ≡ e → answer ≡ admit asked → answer ≡ Err k → judge_entry e ≡ Declined k
 refused_told {e} {asked} at told is = rw (← at) (admit_refused asked (sym told ∙ is))
 
 -- the same by either rule
 pub admitted_told_by : (stored : Bool) {e asked x : U32TableEntry} {answer : Admission} → asked ≡ e
-    → answer ≡ admission (judge_entry_by stored asked) asked → answer ≡ Admitted x → (judge_entry_by stored e ≡ Fine) × (x ≡ admitted e)
+    → answer ≡ admission (judge_entry_by stored asked) asked → answer ≡ Ok x → (judge_entry_by stored e ≡ Fine) × (x ≡ admitted e)
 admitted_told_by stored {e} {asked} at told is = rw (← at) (admission_admitted asked (judge_entry_by stored asked) (sym told ∙ is))
 
 pub refused_told_by : (stored : Bool) {e asked : U32TableEntry} {k : Refusal} {answer : Admission} → asked ≡ e
-    → answer ≡ admission (judge_entry_by stored asked) asked → answer ≡ NotAdmitted k → judge_entry_by stored e ≡ Declined k
+    → answer ≡ admission (judge_entry_by stored asked) asked → answer ≡ Err k → judge_entry_by stored e ≡ Declined k
 refused_told_by stored {e} {asked} at told is = rw (← at) (admission_refused asked (judge_entry_by stored asked) (sym told ∙ is))
 
 -- ---- one place
@@ -154,7 +150,7 @@ admitted_fine l h =
 
 -- ---- the list judged
 
-pub judged_shape : (l : U32List) {k : Refusal} → list_shape l ≡ Declined k → judged_list l ≡ Refused k
+pub judged_shape : (l : U32List) {k : Refusal} → list_shape l ≡ Declined k → judged_list l ≡ Err k
 unfolding judged_list judge_list
 judged_shape l e = rw e
 
@@ -164,39 +160,39 @@ unfolding judged_list judge_list judged_places
 judged_places_lem l e = rw e
 
 module _ (stored : Bool) (l : U32List) where
-  pub places_declined : {k : Refusal} → first_reason (judge_place_by stored l) 0 (used l) ≡ Declined k → judged_places stored l ≡ Refused k
+  pub places_declined : {k : Refusal} → first_reason (judge_place_by stored l) 0 (used l) ≡ Declined k → judged_places stored l ≡ Err k
   unfolding judged_places
   places_declined e = rw e
 
-  pub places_fine : first_reason (judge_place_by stored l) 0 (used l) ≡ Fine → judged_places stored l ≡ Height (list_height l)
+  pub places_fine : first_reason (judge_place_by stored l) 0 (used l) ≡ Fine → judged_places stored l ≡ Ok (list_height l)
   unfolding judged_places
   places_fine e = rw e
 
 -- ---- what an answer of `judge_list` or `judge_places` tells
 
-pub judged_as_height : (j : Judgement) (n h : ℕ) → Height h ≡ judged_as j n → (j ≡ Fine) × (h ≡ n)
+pub judged_as_height : (j : Judgement) (n h : ℕ) → Ok h ≡ judged_as j n → (j ≡ Fine) × (h ≡ n)
 judged_as_height Fine n h e = (refl, cc)
 judged_as_height (Declined k) n h e = absurd (let z : ◌≡◌ {A = ℕ} 0 1 = cc in omega arith)
 
-pub judged_as_refused : (j : Judgement) (n : ℕ) (k : Refusal) → Refused k ≡ judged_as j n → j ≡ Declined k
+pub judged_as_refused : (j : Judgement) (n : ℕ) (k : Refusal) → Err k ≡ judged_as j n → j ≡ Declined k
 judged_as_refused Fine n k e = absurd (let z : ◌≡◌ {A = ℕ} 0 1 = cc in omega arith)
 judged_as_refused (Declined r) n k e = cc
 
 pub places_height : (stored : Bool) (l : U32List) (h : ℕ)
-    → Height h ≡ judged_places stored l → (first_reason (judge_place_by stored l) 0 (used l) ≡ Fine) × (h ≡ list_height l)
+    → Ok h ≡ judged_places stored l → (first_reason (judge_place_by stored l) 0 (used l) ≡ Fine) × (h ≡ list_height l)
 unfolding judged_places
 places_height stored l h e = judged_as_height (first_reason (judge_place_by stored l) 0 (used l)) (list_height l) h e
 
 pub places_refused : (stored : Bool) (l : U32List) (k : Refusal)
-    → Refused k ≡ judged_places stored l → first_reason (judge_place_by stored l) 0 (used l) ≡ Declined k
+    → Err k ≡ judged_places stored l → first_reason (judge_place_by stored l) 0 (used l) ≡ Declined k
 unfolding judged_places
 places_refused stored l k e = judged_as_refused (first_reason (judge_place_by stored l) 0 (used l)) (list_height l) k e
 
-pub judged_height : (l : U32List) (h : ℕ) → Height h ≡ judged_list l → (judge_list l ≡ Fine) × (h ≡ list_height l)
+pub judged_height : (l : U32List) (h : ℕ) → Ok h ≡ judged_list l → (judge_list l ≡ Fine) × (h ≡ list_height l)
 unfolding judged_list
 judged_height l h e = judged_as_height (judge_list l) (list_height l) h e
 
-pub judged_refused : (l : U32List) (k : Refusal) → Refused k ≡ judged_list l → judge_list l ≡ Declined k
+pub judged_refused : (l : U32List) (k : Refusal) → Err k ≡ judged_list l → judge_list l ≡ Declined k
 unfolding judged_list
 judged_refused l k e = judged_as_refused (judge_list l) (list_height l) k e
 

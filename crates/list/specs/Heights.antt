@@ -1,14 +1,11 @@
 -- The height of a list (document 01, "Entry and height": "its height is the sum").
-use Rattle.std.specs.Prelude.{ℕ, ◌+◌, Bool, List, [], ◌∷◌}
+use Rattle.std.specs.Prelude.{ℕ, ◌+◌, Bool, List, [], ◌∷◌, Result, Ok, Err}
+use Rattle.words.specs.declared.Refusal.{Refusal}
 use Rattle.words.specs.Places.{places}
-use Rattle.words.specs.Refusals.{first_reason}
-use Rattle.words.specs.declared.Judgement.{Judgement}
-use Rattle.words.specs.declared.Judgement.TheVariants.{Fine, Declined}
+use Rattle.words.specs.Refusals.{first_reason, Judgement, Fine, Declined}
 use Rattle.isa.specs.declared.U32TableEntry.{U32TableEntry}
 use Rattle.isa.specs.Entries.{height}
 use Rattle.list.specs.Lists.{U32List, used, entry_at, judge_place_by, judge_list}
-use Rattle.list.specs.declared.Judged.{Judged}
-use Rattle.list.specs.declared.Judged.TheVariants.{Height, Refused}
 
 -- the places that get a section, in list order: every used one. Which list it is that is filled stands in Holds.antt: section_list
 abbrev pub section_places : U32List → List ℕ
@@ -31,9 +28,12 @@ unfoldable pub list_height : U32List → ℕ
 list_height l = sum_heights (section_entries l)
 
 -- a list judged: its height, or the first reason against it
+abbrev pub Judged : Type 0
+Judged = Result ℕ Refusal
+
 abbrev pub judged_as : Judgement → ℕ → Judged
-judged_as Fine h = Height h
-judged_as (Declined reason) h = Refused reason
+judged_as Fine h = Ok h
+judged_as (Declined reason) h = Err reason
 
 -- its used places alone, by one of the two rules of entries
 unfoldable pub judged_places : (stored : Bool) → U32List → Judged

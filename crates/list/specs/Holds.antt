@@ -1,13 +1,11 @@
 -- Holds (request 6: "The list gains a third parallel array of holds, not stored in files"). They stand beside the list: what a list and its entries are
 -- is said without them (Lists.antt).
 use Rattle.std.specs.Prelude.{ℕ, not, List, eqb, length, get_or}
-use Rattle.words.specs.Refusals.{decline_if, or_else, first_reason}
-use Rattle.words.specs.declared.Judgement.{Judgement}
+use Rattle.words.specs.Refusals.{decline_if, or_else, first_reason, Judgement}
 use Rattle.words.specs.declared.Refusal.TheVariants.{Shape, OpenHold}
 use Rattle.list.specs.declared.Sizes.{Sizes}
-use Rattle.list.specs.declared.Judged.{Judged}
 use Rattle.list.specs.Lists.{U32List, u32_list, capacity, used, list_shape, judge_list}
-use Rattle.list.specs.Heights.{list_height, judged_as}
+use Rattle.list.specs.Heights.{Judged, list_height, judged_as}
 use Rattle.list.specs.Counted.{counted}
 
 pub record HeldList : Type 0 where

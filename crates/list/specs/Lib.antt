@@ -4,3 +4,4 @@ pub mod Keys
 pub mod Counted
 pub mod Holds
 pub mod Eights
+pub mod Lent

@@ -1,8 +1,7 @@
 -- Lists (document 01, "Recording and stored lists" and "Reasons to decline"): what a list is, and when it is admitted.
 use Rattle.std.specs.Prelude.{ℕ, ◌+◌, ◌*◌, Bool, true, false, not, ◌||◌, List, eqb, ltb, length, get_or}
 use Rattle.words.specs.Limits.{max_places, multiplicity_limit}
-use Rattle.words.specs.Refusals.{decline_if, or_else, first_reason}
-use Rattle.words.specs.declared.Judgement.{Judgement}
+use Rattle.words.specs.Refusals.{decline_if, or_else, first_reason, Judgement}
 use Rattle.words.specs.declared.Refusal.TheVariants.{Shape, CountFull}
 use Rattle.isa.specs.declared.U32TableEntry.{U32TableEntry}
 use Rattle.isa.specs.Entries.{entry, entry_width, judge_entry, admit_stored, admitted}

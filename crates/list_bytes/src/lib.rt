@@ -35,6 +35,7 @@ pub const MULTIPLICITY_WIDTH: usize = 8;
 pub const OLD_MULTIPLICITY_WIDTH: usize = 4;
 
 // The number of entries that the bytes say they hold.
+#[tactic(auto, unfolding(crate::specs::Packed::stored_n))]
 pub fn stored_n(bytes: &[u8]) -> usize
     requires { n_width ≤ length bytes.now }
     ensures { result ≡ stored_n bytes.now }
@@ -43,6 +44,7 @@ pub fn stored_n(bytes: &[u8]) -> usize
 }
 
 // The height that the bytes say their entries have.
+#[tactic(auto, unfolding(crate::specs::Packed::stored_height))]
 pub fn stored_height(bytes: &[u8]) -> u64
     requires { head_width ≤ length bytes.now }
     ensures { result ≡ stored_height bytes.now }
@@ -51,6 +53,7 @@ pub fn stored_height(bytes: &[u8]) -> u64
 }
 
 // The entry at place i of the bytes.
+#[tactic(auto, unfolding(crate::specs::Packed::stored_entry))]
 fn stored_entry(bytes: &[u8], i: usize) -> U32TableEntry
     requires { (i < max_places) × (keys_end (i + 1) ≤ length bytes.now) }
     ensures { result ≡ stored_entry bytes.now i }
@@ -83,15 +86,13 @@ pub fn unpack(bytes: &[u8], n: usize, keys: &mut [u64], multiplicities: &mut [u6
     ensures keys_after { keys.new ≡ sets keys.old 0 (flat_map (λ i. entry_words (stored_entry bytes.now i)) (places n)) }
     ensures multiplicities_after { multiplicities.new ≡ sets multiplicities.old 0 (map (stored_multiplicity bytes.now) (places n)) }
 {
-    let mut i: usize = 0;
-    while i < n {
+    for i in 0..n {
         list::put_key(keys, i, stored_entry(bytes, i));
         multiplicities[i] = stored_multiplicity(bytes, n, i);
-        i += 1;
     }
 }
 
-// Stores the bytes of an entry from place `at` on.
+// Stores the bytes of an entry from place `at` on. Here and below the lent bytes are written at places: nothing here allocates.
 fn put_entry(out: &mut [u8], at: usize, e: U32TableEntry)
     requires { at + key_width ≤ length out.old }
     ensures { out.new ≡ sets out.old at (key_bytes e) }
@@ -111,10 +112,8 @@ fn put_entries(keys: &[u64], n: usize, out: &mut [u8], at: usize)
     requires { (n ≤ max_places) × (entry_width * n ≤ length keys.now) × (at + key_width * n ≤ length out.old) }
     ensures { (s : Sizes) (ms : List ℕ) → out.new ≡ sets out.old at (flat_map (λ i. key_bytes (entry_at (u32_list s keys.now ms) i)) (places n)) }
 {
-    let mut i: usize = 0;
-    while i < n {
+    for i in 0..n {
         put_entry(out, at + KEY_WIDTH * i, list::entry_at(keys, i));
-        i += 1;
     }
 }
 
@@ -123,19 +122,18 @@ fn put_multiplicities(multiplicities: &[u64], n: usize, out: &mut [u8], at: usiz
     requires { (n ≤ max_places) × (n ≤ length multiplicities.now) × (at + multiplicity_width * n ≤ length out.old) }
     ensures { (s : Sizes) (ks : List ℕ) → out.new ≡ sets out.old at (flat_map (λ i. le multiplicity_width (multiplicity_at (u32_list s ks multiplicities.now) i)) (places n)) }
 {
-    let mut i: usize = 0;
-    while i < n {
+    for i in 0..n {
         words::put_le(
             out,
             at + MULTIPLICITY_WIDTH * i,
             MULTIPLICITY_WIDTH,
             multiplicities[i],
         );
-        i += 1;
     }
 }
 
 // Stores the bytes of a list, with this number as its height.
+// Keys and multiplicities are lent one by one: what is written is the copy of the counted places, which has no holds.
 pub fn put_list(sizes: Sizes, height: u64, keys: &[u64], multiplicities: &[u64], out: &mut [u8])
     requires { (sizes.used ≤ max_places) × (entry_width * sizes.used ≤ length keys.now) × (sizes.used ≤ length multiplicities.now) × (stored_length sizes.used ≤ length out.old) }
     ensures { out.new ≡ sets out.old 0 (bytes_with height (u32_list sizes keys.now multiplicities.now)) }

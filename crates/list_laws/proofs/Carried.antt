@@ -13,7 +13,7 @@ use lib.Dec.{eqb}
 use borrow.Author.Tests.{eqb-true, eqb-false}
 use Rattle.words.specs.Limits.{multiplicity_limit}
 use Rattle.words.specs.Outcomes.{Outcome}
-use Rattle.words.specs.declared.Judgement.TheVariants.{Fine}
+use Rattle.words.specs.Refusals.{Fine}
 use Rattle.isa.specs.declared.U32TableEntry.{U32TableEntry}
 use Rattle.isa.specs.Entries.{judge_as_it_is, judge_entry, admitted}
 use Rattle.list.specs.Lists.{entry_at}

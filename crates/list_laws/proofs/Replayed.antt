@@ -10,9 +10,7 @@ use lib.ListN.{length}
 use borrow.Author.Tests.{eqb-true, eqb-false}
 use Rattle.words.specs.Answers.{done}
 use Rattle.words.specs.Outcomes.{Outcome}
-use Rattle.words.specs.Refusals.{refusal_number}
-use Rattle.words.specs.declared.Judgement.{Judgement}
-use Rattle.words.specs.declared.Judgement.TheVariants.{Fine, Declined}
+use Rattle.words.specs.Refusals.{refusal_number, Judgement, Fine, Declined}
 use Rattle.list.specs.Holds.{HeldList}
 use Rattle.list_record.specs.Recording.{record_each}
 use Rattle.list_record.proofs.RecordEach.{number_of, each_append}

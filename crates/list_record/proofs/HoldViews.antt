@@ -7,8 +7,7 @@ use mathlib.Core.List.{List, []}
 use mathlib.Core.Logic.{◌≢◌}
 use Rattle.words.specs.Limits.{multiplicity_limit}
 use Rattle.words.specs.Outcomes.{Outcome, outcome}
-use Rattle.words.specs.declared.Judgement.{Judgement}
-use Rattle.words.specs.declared.Judgement.TheVariants.{Fine, Declined}
+use Rattle.words.specs.Refusals.{Judgement, Fine, Declined}
 use Rattle.words.specs.declared.Refusal.TheVariants.{CountFull}
 use Rattle.words.proofs.Judgements.{decline_fine, or_both}
 use Rattle.words.proofs.Outcomes.{outcome_fine, outcome_done}

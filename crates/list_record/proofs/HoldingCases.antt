@@ -1,14 +1,14 @@
 -- A hold's end: `drop_reason` and `confirm_reason` in each of their cases, and what it tells that nothing speaks against a drop (drop_told,
 -- drop_room). Assumes nothing.
-use Prim.Native.Nat.{ℕ, ◌+◌, ◌≤◌, ◌<◌}
+use Prim.Native.Nat.{ℕ, ◌+◌, ◌<◌}
 use mathlib.Core.Path.{◌≡◌, ◌∙◌}
 use mathlib.Core.Bool.{true, false, not, and-eq-true_iff}
 use mathlib.Core.Logic.{◌≢◌}
 use native.Mathlib.Omega.{arith}
 use lib.Dec.{eqb, ltb}
 use lib.ListN.{length}
-use borrow.Author.Tests.{lt-ltb, le-ltb, eq-eqb, ne_eqb, ltb-true, eqb-false, not-true}
-use Rattle.words.specs.declared.Judgement.TheVariants.{Fine, Declined}
+use borrow.Author.Tests.{ltb-true, eqb-false, not-true}
+use Rattle.words.specs.Refusals.{Fine, Declined}
 use Rattle.words.specs.declared.Refusal.{Refusal}
 use Rattle.words.specs.declared.Refusal.TheVariants.{CountFull, NoHold}
 use Rattle.words.proofs.Judgements.{decline_true, decline_false, decline_not_fine, or_next, or_first, or_both}
@@ -20,23 +20,6 @@ use Rattle.list_record.specs.Holding.{drop_reason, confirm_reason}
 -- ---- the cases
 
 module _ (h : HeldList) (i : ℕ) where
-  pub drop_shape : {k : Refusal} → held_shape h ≡ Declined k → drop_reason h i ≡ Declined k
-  unfolding drop_reason
-  drop_shape e = or_first _ e
-
-  module _ (fine : held_shape h ≡ Fine) where
-    pub drop_unused : used h.list ≤ i → drop_reason h i ≡ Declined NoHold
-    unfolding drop_reason
-    drop_unused u = or_next _ fine ∙ rw (le-ltb i (used h.list) u)
-
-    pub drop_without : i < used h.list → hold_at h i ≡ 0 → drop_reason h i ≡ Declined NoHold
-    unfolding drop_reason
-    drop_without u z = or_next _ fine ∙ rw (lt-ltb i (used h.list) u, eq-eqb (hold_at h i) 0 z)
-
-    pub drop_fine : i < used h.list → hold_at h i ≢ 0 → drop_reason h i ≡ Fine
-    unfolding drop_reason
-    drop_fine u n = or_next _ fine ∙ rw (lt-ltb i (used h.list) u, ne_eqb (hold_at h i) 0 n)
-
   pub confirm_without : {k : Refusal} → drop_reason h i ≡ Declined k → confirm_reason h i ≡ Declined k
   unfolding confirm_reason
   confirm_without e = or_first _ e

@@ -16,8 +16,7 @@ use borrow.Author.Tests.{ltb-true, ltb-false}
 use Rattle.field.specs.Elements.{p}
 use Rattle.words.specs.Answers.{done}
 use Rattle.words.specs.Outcomes.{Outcome, outcome}
-use Rattle.words.specs.declared.Judgement.{Judgement}
-use Rattle.words.specs.declared.Judgement.TheVariants.{Fine, Declined}
+use Rattle.words.specs.Refusals.{Judgement, Fine, Declined}
 use Rattle.words.specs.declared.Refusal.TheVariants.{ListFull}
 use Rattle.words.proofs.Judgements.{decline_not_fine, or_both}
 use Rattle.words.proofs.Outcomes.{outcome_fine}

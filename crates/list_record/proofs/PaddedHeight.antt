@@ -1,15 +1,17 @@
 -- padded_height h is the smallest power of two that is at least h and at least 256: it is one (padded_power), it is at least h
 -- (padded_at_least) and 256 (padded_not_below), and no power of two that is at least both is smaller (padded_least). Each is shown of the
--- doublings from any power of two on, by induction on their number; h doublings are enough, since each adds one or more. Assumes nothing.
-use Prim.Native.Nat.{ℕ, zero, suc, ◌+◌, ◌*◌, ◌^◌, ◌≤◌, ◌<◌}
-use mathlib.Core.Path.{◌≡◌, refl, sym, ap, subst, ◌∙◌}
-use mathlib.Core.Bool.{Bool, true, false, cond}
+-- doublings from any power of two on, by induction on their number; h doublings are enough, since each adds one or more. It is the larger of 256 and the
+-- library's next power of two (padded_next). Assumes nothing.
+use Prim.Native.Nat.{ℕ, zero, suc, ◌+◌, ◌*◌, ◌^◌, ◌≤◌, ◌<◌, max}
+use mathlib.Core.Path.{◌≡◌, refl, sym, subst, ◌∙◌}
+use mathlib.Core.Bool.{Bool, true, false}
 use mathlib.Core.Logic.{◌⊎◌, inl, inr, ⊎_elim}
-use native.Mathlib.Nat.{mul_comm, pow-succ', le_antisymm}
+use native.Mathlib.Nat.{pow-succ', le_antisymm}
 use native.Mathlib.Omega.{arith}
 use lib.Dec.{ltb}
 use lib.Pow.{pow_mono}
 use borrow.Author.Tests.{ltb-true, ltb-false, lt-ltb, le-ltb}
+use Rattle.std.specs.Int.{IsNextPowerOfTwo}
 use Rattle.words.specs.Limits.{min_padded_height}
 use Rattle.list_record.specs.Plan.{doubled_to, padded_height}
 
@@ -24,22 +26,6 @@ below_or_not a b = go (ltb a b) refl where
 pub doubled_stops : (n q h : ℕ) → h ≤ q → doubled_to n q h ≡ q
 doubled_stops zero q h l = refl
 doubled_stops (suc n) q h l = rw (le-ltb q h l)
-
-doubled_goes : (n q h : ℕ) → q < h → doubled_to (suc n) q h ≡ doubled_to n (2 * q) h
-doubled_goes n q h l = rw (lt-ltb q h l)
-
--- any number of doublings that is enough gives the same
-doubled_enough : (m n q h : ℕ) → 1 ≤ q → h ≤ q + m → h ≤ q + n → doubled_to m q h ≡ doubled_to n q h
-doubled_enough zero n q h p a b = sym (doubled_stops n q h (omega arith))
-doubled_enough (suc m) zero q h p a b = doubled_stops (suc m) q h (omega arith)
-doubled_enough (suc m) (suc n) q h p a b =
-    ap (λ (x : ℕ). cond (ltb q h) x q) (doubled_enough m n (2 * q) h (omega arith) (omega arith) (omega arith))
-
--- one turn of the loop of `padded_height`
-pub doubled_once : (q h : ℕ) → 1 ≤ q → q < h → doubled_to h q h ≡ doubled_to h (q * 2) h
-doubled_once q zero p l = absurd (omega arith)
-doubled_once q (suc n) p l =
-    rw (mul_comm q 2) (doubled_goes n q (suc n) l ∙ doubled_enough n (suc n) (2 * q) (suc n) (omega arith) (omega arith) (omega arith))
 
 -- ---- what they give
 
@@ -124,3 +110,34 @@ padded_unique h k b m least =
     (subst (λ (x : ℕ). 2 ^ k ≤ x) (sym (padded_power h).1)
     (least (padded_power h).0 (subst (λ (x : ℕ). h ≤ x) (padded_power h).1 (padded_at_least h))
     (subst (λ (x : ℕ). min_padded_height ≤ x) (padded_power h).1 (padded_not_below h))))
+
+-- ---- by the library's next power of two
+
+pub padded_next : (h p : ℕ) → IsNextPowerOfTwo h p → max p min_padded_height ≡ padded_height h
+padded_next h p (power, low, high) = go power.0 power.1 (below_or_not power.0 8) where
+  go : (k : ℕ) → p ≡ 2 ^ k → (k < 8) ⊎ (8 ≤ k) → max p min_padded_height ≡ padded_height h
+  go k e (inl l) =
+      let k7 : k ≤ 7 = omega arith in
+      let small : 2 ^ k ≤ 2 ^ 7 = pow_mono k7 in
+      let m : max p min_padded_height ≡ 2 ^ 8 = omega (arith, e) in
+      m ∙ sym (padded_unique h 8 (omega (arith, e)) (omega arith) (λ j a b. b))
+  go zero e (inr l) = absurd (omega arith)
+  go (suc k) e (inr l) =
+      let large : 2 ^ 8 ≤ 2 ^ suc k = pow_mono l in
+      let m : max p min_padded_height ≡ 2 ^ suc k = omega (arith, e) in
+      let half : 2 ^ suc k ≡ 2 * 2 ^ k = pow-succ' 2 k in
+      m
+      ∙ sym
+      (padded_unique h (suc k) (omega (arith, e)) (omega arith)
+      (λ j a b. ⊎_elim
+      (λ (s : j < suc k). let j_k : j ≤ k = omega arith in let under : 2 ^ j ≤ 2 ^ k = pow_mono j_k in absurd (omega (arith, e)))
+      (λ (s : suc k ≤ j). pow_mono s)
+      (below_or_not j (suc k))))
+
+-- a power of two that is a word is at most 2^63
+pub power_word : (k : ℕ) → 2 ^ k < 2 ^ 64 → 2 ^ k ≤ 2 ^ 63
+power_word k w =
+    ⊎_elim
+    (λ (l : k < 64). let k63 : k ≤ 63 = omega arith in pow_mono k63)
+    (λ (l : 64 ≤ k). let large : 2 ^ 64 ≤ 2 ^ k = pow_mono l in absurd (omega arith))
+    (below_or_not k 64)

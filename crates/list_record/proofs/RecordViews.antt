@@ -12,7 +12,7 @@ use lib.Seq.{get_or-set_same}
 use borrow.Author.Tests.{ltb-true}
 use Rattle.words.specs.Limits.{multiplicity_limit}
 use Rattle.words.specs.Outcomes.{Outcome}
-use Rattle.words.specs.declared.Judgement.TheVariants.{Fine}
+use Rattle.words.specs.Refusals.{Fine}
 use Rattle.words.specs.declared.Refusal.TheVariants.{CountFull, ListFull}
 use Rattle.words.proofs.Judgements.{decline_fine, decline_not_fine, or_both}
 use Rattle.words.proofs.Outcomes.{outcome_fine, outcome_done}

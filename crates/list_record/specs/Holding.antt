@@ -1,8 +1,7 @@
 -- A hold's end (request 6): "Confirm turns one hold into one count; drop removes one hold."
 use Rattle.std.specs.Prelude.{ℕ, ◌+◌, ◌-◌, not, ◌&&◌, [], eqb, ltb}
 use Rattle.words.specs.Outcomes.{Outcome, outcome}
-use Rattle.words.specs.Refusals.{decline_if, or_else}
-use Rattle.words.specs.declared.Judgement.{Judgement}
+use Rattle.words.specs.Refusals.{decline_if, or_else, Judgement}
 use Rattle.words.specs.declared.Refusal.TheVariants.{CountFull, NoHold}
 use Rattle.list.specs.Lists.{used, multiplicity_at, count_full}
 use Rattle.list.specs.Holds.{HeldList, hold_at, held_shape}

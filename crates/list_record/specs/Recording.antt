@@ -1,20 +1,18 @@
 -- Recording (document 01, "Recording and stored lists"): "The first equal key gains one; else the key is appended with 1; the answer is the
 -- key's position, from 0." And holding (request 6): "A hold finds its key, or appends it with multiplicity 0; it then adds one hold and answers the
 -- position." Both are one rule with two gains: a recording gains one count and no hold, a hold no count and one hold.
-use Rattle.std.specs.Prelude.{ℕ, ◌+◌, ◌*◌, Bool, cond, not, List, [], ◌∷◌, eqb, ltb, set}
+use Rattle.std.specs.Prelude.{ℕ, ◌+◌, ◌*◌, Bool, cond, not, List, [], ◌∷◌, eqb, ltb, set, Result, Ok, Err}
 use Rattle.std.proofs.lemmas.List.Edits.{sets}
 use Rattle.words.specs.Answers.{Answer, done, declined}
 use Rattle.words.specs.Outcomes.{Outcome, outcome}
-use Rattle.words.specs.Refusals.{decline_if, or_else}
-use Rattle.words.specs.declared.Judgement.{Judgement}
+use Rattle.words.specs.Refusals.{decline_if, or_else, Judgement}
+use Rattle.words.specs.declared.Refusal.{Refusal}
 use Rattle.words.specs.declared.Refusal.TheVariants.{CountFull, ListFull}
 use Rattle.isa.specs.declared.U32TableEntry.{U32TableEntry}
 use Rattle.isa.specs.Entries.{entry_words, entry_width, judge_entry, admitted}
 use Rattle.list.specs.Lists.{capacity, used, multiplicity_at, count_full}
 use Rattle.list.specs.Keys.{find_key}
 use Rattle.list.specs.Holds.{HeldList, held_list, hold_at, held_shape}
-use Rattle.list_record.specs.declared.Recorded.{Recorded}
-use Rattle.list_record.specs.declared.Recorded.TheVariants.{At, Refused}
 
 -- the first used place that holds the key, or `used`
 abbrev pub place_in : HeldList → U32TableEntry → ℕ
@@ -74,7 +72,10 @@ unfoldable pub record_each : HeldList → List U32TableEntry → Outcome HeldLis
 record_each h [] = record { answer = done []; left = h }
 record_each h (e ∷ es) = let a = record_all h e in cond (eqb a.answer.number 0) (record_each a.left es) a
 
--- what the answer of a recording means
+-- what the answer of a recording means: the place, or the reason against it
+abbrev pub Recorded : Type 0
+Recorded = Result ℕ Refusal
+
 abbrev pub recorded_answer : Recorded → Answer
-recorded_answer (At i) = done (i ∷ [])
-recorded_answer (Refused reason) = declined reason
+recorded_answer (Ok i) = done (i ∷ [])
+recorded_answer (Err reason) = declined reason

@@ -24,29 +24,27 @@ fn bucket(key: U32TableEntry) -> usize
 }
 
 // Whether two of the first n entries are equal, as admission hands them back. Each is compared with those before it in its bucket. The places
-// of a bucket are linked, from the last to the first: `heads` has the last of each bucket and `links` the one before each place, both counted
-// from 1.
+// of a bucket are linked, from the last to the first: `heads` has the last of each bucket and `links` the one before each place.
+// No HashSet: nothing here allocates. Places fit 16 bits, and so half as many bytes are set at the start.
 pub fn has_repeats(keys: &[u64], n: usize) -> bool
     requires { (n ≤ max_places) × (entry_width * n ≤ length keys.now) }
     ensures { (s : Sizes) (ms : List ℕ) → result ≡ repeats (map (entry_at (u32_list s keys.now ms)) (places n)) }
 {
-    let mut heads = [0usize; BUCKETS];
-    let mut links = [0usize; MAX_PLACES];
-    let mut i: usize = 0;
-    while i < n {
+    let mut heads: [Option<u16>; BUCKETS] = [None; BUCKETS];
+    let mut links: [Option<u16>; MAX_PLACES] = [None; MAX_PLACES];
+    for i in 0..n {
         let key = list::entry_at(keys, i);
         let b = bucket(key);
         let mut next = heads[b];
-        while 0 < next {
-            let j = next - 1;
-            if list::same_key(list::entry_at(keys, j), key) {
+        while let Some(last) = next {
+            let j = usize::from(last);
+            if list::entry_at(keys, j) == key {
                 return true;
             }
             next = links[j];
         }
         links[i] = heads[b];
-        heads[b] = i + 1;
-        i += 1;
+        heads[b] = Some(i as u16);
     }
     false
 }

@@ -9,10 +9,10 @@ use mathlib.Core.Logic.{◌≢◌}
 use native.Mathlib.Omega.{arith}
 use lib.Dec.{ltb}
 use borrow.Author.Tests.{ltb-true, ltb-false, ne_eqb}
+use Rattle.std.specs.Prelude.{Ok, Err}
 use Rattle.words.specs.Answers.{Answer, done, declined}
 use Rattle.words.specs.Outcomes.{Outcome, Leaves}
-use Rattle.words.specs.declared.Judgement.{Judgement}
-use Rattle.words.specs.declared.Judgement.TheVariants.{Fine, Declined}
+use Rattle.words.specs.Refusals.{Judgement, Fine, Declined}
 use Rattle.words.specs.declared.Refusal.{Refusal}
 use Rattle.words.specs.declared.Refusal.TheVariants.{ListFull}
 use Rattle.isa.specs.declared.U32TableEntry.{U32TableEntry}
@@ -25,14 +25,14 @@ use Rattle.list.specs.Holds.{HeldList, hold_at, held_shape}
 use Rattle.list.proofs.Finding.{same_key_equal, find_within, find_holds}
 use Rattle.list.proofs.HeldLists.{HeldShaped, held_shaped}
 use Rattle.list_record.specs.declared.Place.{Place}
-use Rattle.list_record.specs.declared.Place.TheVariants.{Known, New, Refused}
+use Rattle.list_record.specs.declared.Place.TheVariants.{Known, New}
 use Rattle.list_record.specs.Recording.{place_in, known, place_reason, record_reason, raised, appended, record_all}
-use Rattle.list_record.specs.Placing.{place_as, place_of, stored_at, Fits}
+use Rattle.list_record.specs.Placing.{Placed, place_as, place_of, stored_at, Fits}
 use Rattle.list_record.proofs.RecordingCases.{place_known, place_full, place_new, no_place, shape_declined, entry_declined, place_admitted}
 use Rattle.list_record.proofs.RecordingCases.{recorded_at, place_fits, record_keeps_shape}
 use Rattle.list_record.proofs.RecordEach.{number_of, each_accepted, each_refused}
 use Rattle.list_record.proofs.Stores.{settled_find, settled_count, settled_hold, appended_count, appended_hold, new_entry, appended_known, appended_unknown}
-use Rattle.list_replay.specs.Together.{second_place, reason_at}
+use Rattle.list_replay.specs.Together.{second_place}
 use Rattle.list_replay.specs.Replay.{record_together}
 use Rattle.list_replay.proofs.Walks.{together_done, together_refused, declined_positive}
 
@@ -88,7 +88,7 @@ raised_place h a g d at =
         no_place (raised 1 0 h (place_in h a)) g (place_in h g) found b v ∙ sym (no_place h g (place_in h g) refl b v)
 
 appended_place : (h : HeldList) (a g : U32TableEntry) → HeldShaped h → used h.list < capacity h.list → (admitted a).opcode ≢ g.opcode
-    → place_as (place_reason (appended 1 0 h a) g) (appended 1 0 h a) g ≡ second_place h.list.sizes (New a) (place_as (place_reason h g) h g)
+    → place_as (place_reason (appended 1 0 h a) g) (appended 1 0 h a) g ≡ second_place h.list.sizes (Ok (New a)) (place_as (place_reason h g) h g)
 appended_place h a g s room d =
     go (ltb (place_in h g) (used h.list)) refl (full h (place_in h g)) refl (ltb (used h.list + 1) (capacity h.list)) refl
   where
@@ -103,35 +103,35 @@ appended_place h a g s room d =
 
     go : (t : Bool) → ltb (place_in h g) (used h.list) ≡ t → (c : Bool) → full h (place_in h g) ≡ c
         → (u : Bool) → ltb (used h.list + 1) (capacity h.list) ≡ u
-        → place_as (place_reason (appended 1 0 h a) g) (appended 1 0 h a) g ≡ second_place h.list.sizes (New a) (place_as (place_reason h g) h g)
+        → place_as (place_reason (appended 1 0 h a) g) (appended 1 0 h a) g ≡ second_place h.list.sizes (Ok (New a)) (place_as (place_reason h g) h g)
     go true k false c u r =
         let b = ltb-true (place_in h g) (used h.list) k in
         place_known (appended 1 0 h a) g (place_in h g) (sym (appended_known 1 0 h a g b)) (omega arith) (same b ∙ c)
-        ∙ ap (second_place h.list.sizes (New a)) (sym (place_known h g (place_in h g) refl b c))
+        ∙ ap (second_place h.list.sizes (Ok (New a))) (sym (place_known h g (place_in h g) refl b c))
     go true k true c u r =
         let b = ltb-true (place_in h g) (used h.list) k in
         place_full (appended 1 0 h a) g (place_in h g) (sym (appended_known 1 0 h a g b)) (omega arith) (same b ∙ c)
-        ∙ ap (second_place h.list.sizes (New a)) (sym (place_full h g (place_in h g) refl b c))
+        ∙ ap (second_place h.list.sizes (Ok (New a))) (sym (place_full h g (place_in h g) refl b c))
     go false k t c true r =
         let b = ltb-false (place_in h g) (used h.list) k in
-        let two : second_place h.list.sizes (New a) (New g) ≡ New g = rw r in
+        let two : second_place h.list.sizes (Ok (New a)) (Ok (New g)) ≡ Ok (New g) = rw r in
         place_new (appended 1 0 h a) g (used h.list + 1) (sym (ends b)) (omega arith) (ltb-true (used h.list + 1) (capacity h.list) r)
-        ∙ sym two ∙ ap (second_place h.list.sizes (New a)) (sym (place_new h g (place_in h g) refl b room))
+        ∙ sym two ∙ ap (second_place h.list.sizes (Ok (New a))) (sym (place_new h g (place_in h g) refl b room))
     go false k t c false r =
         let b = ltb-false (place_in h g) (used h.list) k in
-        let one : second_place h.list.sizes (New a) (New g) ≡ Refused ListFull = rw r in
+        let one : second_place h.list.sizes (Ok (New a)) (Ok (New g)) ≡ Err ListFull = rw r in
         no_place (appended 1 0 h a) g (used h.list + 1) (sym (ends b)) (omega arith) (ltb-false (used h.list + 1) (capacity h.list) r)
-        ∙ sym one ∙ ap (second_place h.list.sizes (New a)) (sym (place_new h g (place_in h g) refl b room))
+        ∙ sym one ∙ ap (second_place h.list.sizes (Ok (New a))) (sym (place_new h g (place_in h g) refl b room))
 
 -- ---- the place of any entry
 
-second_refused_stays : (s : Sizes) (first : Place) (k : Refusal) → second_place s first (Refused k) ≡ Refused k
-second_refused_stays s (Known i) k = refl
-second_refused_stays s (New e) k = refl
-second_refused_stays s (Refused r) k = refl
+second_refused_stays : (s : Sizes) (first : Placed) (k : Refusal) → second_place s first (Err k) ≡ Err k
+second_refused_stays s (Ok (Known i)) k = refl
+second_refused_stays s (Ok (New e)) k = refl
+second_refused_stays s (Err r) k = refl
 
 -- a reason of the shape or of the entry stays; else the place of the admitted entry decides
-after_first : (l m : HeldList) (first : Place) (f : U32TableEntry) → held_shape m ≡ held_shape l
+after_first : (l m : HeldList) (first : Placed) (f : U32TableEntry) → held_shape m ≡ held_shape l
     → (held_shape l ≡ Fine
     → place_as (place_reason m (admitted f)) m (admitted f) ≡ second_place l.list.sizes first (place_as (place_reason l (admitted f)) l (admitted f)))
     → place_of m f ≡ second_place l.list.sizes first (place_of l f)
@@ -155,13 +155,13 @@ both_places l e f d = go (record_reason l e) refl where
   apart_again : (admitted (admitted e)).opcode ≢ (admitted f).opcode
   apart_again q = apart (sym (opcode_admitted (admitted e)) ∙ q)
 
-  Says : Place → Type 0
+  Says : Placed → Type 0
   Says p = place_of (record_all l e).left f ≡ second_place l.list.sizes p (place_of l f)
 
-  leaves : {p : Place} → place_of l e ≡ p → (record_all l e).left ≡ (stored_at 1 0 l p).left
-  leaves q = ap (λ (o : Outcome HeldList). o.left) (recorded_at 1 0 l e) ∙ ap (λ (p : Place). (stored_at 1 0 l p).left) q
+  leaves : {p : Placed} → place_of l e ≡ p → (record_all l e).left ≡ (stored_at 1 0 l p).left
+  leaves q = ap (λ (o : Outcome HeldList). o.left) (recorded_at 1 0 l e) ∙ ap (λ (p : Placed). (stored_at 1 0 l p).left) q
 
-  stored : (p : Place) → place_of l e ≡ p
+  stored : (p : Placed) → place_of l e ≡ p
       → (held_shape l ≡ Fine → place_as (place_reason (stored_at 1 0 l p).left (admitted f)) (stored_at 1 0 l p).left (admitted f)
       ≡ second_place l.list.sizes p (place_as (place_reason l (admitted f)) l (admitted f)))
       → Says p
@@ -169,81 +169,83 @@ both_places l e f d = go (record_reason l e) refl where
       ap (λ (m : HeldList). place_of m f) (leaves q)
       ∙ after_first l (stored_at 1 0 l p).left p f (ap held_shape (sym (leaves q)) ∙ record_keeps_shape 1 0 l e) h
 
-  room : HeldShaped l → Fits l (New (admitted e)) → used l.list < capacity l.list
+  room : HeldShaped l → Fits l (Ok (New (admitted e))) → used l.list < capacity l.list
   room s fits = omega (arith, s.list.multiplicities, fits.1)
 
   either : (t : Bool) → known l (admitted e) ≡ t → place_of l e ≡ place_as Fine l (admitted e) → Says (place_as Fine l (admitted e))
   either true k q =
-      let p : place_as Fine l (admitted e) ≡ Known (place_in l (admitted e)) = rw k in
-      rw p (stored (Known (place_in l (admitted e))) (q ∙ p)
+      let p : place_as Fine l (admitted e) ≡ Ok (Known (place_in l (admitted e))) = rw k in
+      rw p (stored (Ok (Known (place_in l (admitted e)))) (q ∙ p)
       (λ s. raised_place l (admitted e) (admitted f) apart (ltb-true (place_in l (admitted e)) (used l.list) k)))
   either false k q =
-      let p : place_as Fine l (admitted e) ≡ New (admitted e) = rw k in
-      let fits : Fits l (New (admitted e)) = rw (q ∙ p) at (place_fits l e) in
-      rw p (stored (New (admitted e)) (q ∙ p)
+      let p : place_as Fine l (admitted e) ≡ Ok (New (admitted e)) = rw k in
+      let fits : Fits l (Ok (New (admitted e))) = rw (q ∙ p) at (place_fits l e) in
+      rw p (stored (Ok (New (admitted e))) (q ∙ p)
       (λ s. appended_place l (admitted e) (admitted f) (held_shaped l s) (room (held_shaped l s) fits) apart_again))
 
   go : (j : Judgement) → record_reason l e ≡ j → Says (place_as (record_reason l e) l (admitted e))
   go Fine q = rw q (either (known l (admitted e)) refl (rw q))
   go (Declined k) q =
-      let p : place_of l e ≡ Refused k = rw q in
+      let p : place_of l e ≡ Err k = rw q in
       rw q (ap (λ (m : HeldList). place_of m f) (leaves p))
 
 -- ---- both recorded, by the two places
 
-stored_number : (l : HeldList) (p : Place) → reason_at p ≡ Fine → number_of (stored_at 1 0 l p) ≡ 0
-stored_number l (Known i) q = refl
-stored_number l (New e) q = refl
-stored_number l (Refused k) q = absurd (let z : ◌≡◌ {A = ℕ} 0 1 = cc in omega arith)
+stored_number : (l : HeldList) (p : Place) → number_of (stored_at 1 0 l (Ok p)) ≡ 0
+stored_number l (Known i) = refl
+stored_number l (New e) = refl
 
-refused_at : {k : Refusal} (p : Place) → reason_at p ≡ Declined k → p ≡ Refused k
-refused_at (Known i) q = absurd (let z : ◌≡◌ {A = ℕ} 0 1 = cc in omega arith)
-refused_at (New e) q = absurd (let z : ◌≡◌ {A = ℕ} 0 1 = cc in omega arith)
-refused_at (Refused r) q = cc
+fits_as : {h m : HeldList} {p q : Placed} → h ≡ m → p ≡ q → Fits m q → Fits h p
+fits_as a b fits = rw (a, b) fits
 
-module _ (l : HeldList) (e f : U32TableEntry) (first : Place) (at : first ≡ place_of l e) where
-  first_stored : record_all l e ≡ stored_at 1 0 l first
-  first_stored = recorded_at 1 0 l e ∙ ap (stored_at 1 0 l) (sym at)
-
-  pub first_refused : {k : Refusal} → reason_at first ≡ Declined k → Leaves (record_together l (e ∷ f ∷ [])) (declined k) l
-  first_refused {k} r =
-      let answer : (record_all l e).answer ≡ declined k = ap (λ (o : Outcome HeldList). o.answer) (first_stored ∙ ap (stored_at 1 0 l) (refused_at first r)) in
+module _ (l : HeldList) (e f : U32TableEntry) where
+  pub first_refused : {k : Refusal} → Err k ≡ place_of l e → Leaves (record_together l (e ∷ f ∷ [])) (declined k) l
+  first_refused {k} at =
+      let answer : (record_all l e).answer ≡ declined k = ap (λ (o : Outcome HeldList). o.answer) (recorded_at 1 0 l e ∙ ap (stored_at 1 0 l) (sym at)) in
       let not_done : number_of (record_all l e) ≢ 0 = λ z. declined_positive k (sym (ap (λ (a : Answer). a.number) answer) ∙ z) in
       together_refused l (e ∷ f ∷ []) k (ap (λ (o : Outcome HeldList). o.answer) (each_refused l e (f ∷ []) not_done) ∙ answer)
 
-  module _ (differ : e.opcode ≢ f.opcode) (ahead second : Place) (found : ahead ≡ place_of l f) (is : second ≡ second_place l.list.sizes first ahead)
-      (fine : reason_at first ≡ Fine) where
-    second_place_lem : second ≡ place_of (record_all l e).left f
-    second_place_lem = is ∙ rw (at, found) (sym (both_places l e f differ))
+  module _ (differ : e.opcode ≢ f.opcode) (first : Place) (at : Ok first ≡ place_of l e) where
+    first_stored : record_all l e ≡ stored_at 1 0 l (Ok first)
+    first_stored = recorded_at 1 0 l e ∙ ap (stored_at 1 0 l) (sym at)
 
     first_done : number_of (record_all l e) ≡ 0
-    first_done = ap number_of first_stored ∙ stored_number l first fine
+    first_done = ap number_of first_stored ∙ stored_number l first
 
-    second_stored : record_all (record_all l e).left f ≡ stored_at 1 0 (record_all l e).left second
-    second_stored = recorded_at 1 0 (record_all l e).left f ∙ ap (stored_at 1 0 (record_all l e).left) (sym second_place_lem)
+    -- what is found for the second: a place, or a reason against it
+    module _ (second : Placed) (is : second ≡ second_place l.list.sizes (Ok first) (place_of l f)) where
+      second_place_lem : second ≡ place_of (record_all l e).left f
+      second_place_lem = is ∙ ap (λ (p : Placed). second_place l.list.sizes p (place_of l f)) at ∙ sym (both_places l e f differ)
 
-    pub second_refused : {k : Refusal} → reason_at second ≡ Declined k → Leaves (record_together l (e ∷ f ∷ [])) (declined k) l
-    second_refused {k} r =
-        let answer : (record_all (record_all l e).left f).answer ≡ declined k =
-        ap (λ (o : Outcome HeldList). o.answer) (second_stored ∙ ap (stored_at 1 0 (record_all l e).left) (refused_at second r)) in
+      second_stored : record_all (record_all l e).left f ≡ stored_at 1 0 (record_all l e).left second
+      second_stored = recorded_at 1 0 (record_all l e).left f ∙ ap (stored_at 1 0 (record_all l e).left) (sym second_place_lem)
+
+    pub second_refused : {k : Refusal} → Err k ≡ second_place l.list.sizes (Ok first) (place_of l f) → Leaves (record_together l (e ∷ f ∷ [])) (declined k) l
+    second_refused {k} is =
+        let answer : (record_all (record_all l e).left f).answer ≡ declined k = ap (λ (o : Outcome HeldList). o.answer) (second_stored (Err k) is) in
         let not_done : number_of (record_all (record_all l e).left f) ≢ 0 = λ z. declined_positive k (sym (ap (λ (a : Answer). a.number) answer) ∙ z) in
         together_refused l (e ∷ f ∷ []) k
         (ap (λ (o : Outcome HeldList). o.answer)
         (each_accepted l e (f ∷ []) first_done ∙ each_refused (record_all l e).left f [] not_done)
         ∙ answer)
 
-    module _ (half : HeldList) (kept : half ≡ (stored_at 1 0 l first).left) where
+    pub ahead_refused : {k : Refusal} → Err k ≡ place_of l f → Leaves (record_together l (e ∷ f ∷ [])) (declined k) l
+    ahead_refused {k} q = second_refused (sym (second_refused_stays l.list.sizes (Ok first) k) ∙ ap (second_place l.list.sizes (Ok first)) q)
+
+    module _ (second : Place) (is : Ok second ≡ second_place l.list.sizes (Ok first) (place_of l f)) (half : HeldList)
+        (kept : half ≡ (stored_at 1 0 l (Ok first)).left) where
       half_is : half ≡ (record_all l e).left
       half_is = kept ∙ ap (λ (o : Outcome HeldList). o.left) (sym first_stored)
 
-      pub second_fits : Fits half second
-      second_fits = rw (half_is, second_place_lem) (place_fits (record_all l e).left f)
+      pub second_fits : Fits half (Ok second)
+      second_fits = fits_as half_is (second_place_lem (Ok second) is) (place_fits (record_all l e).left f)
 
-      pub both_stored : {answer : Answer} {after : HeldList} → reason_at second ≡ Fine → Leaves (stored_at 1 0 half second) answer after
+      pub both_stored : {answer : Answer} {after : HeldList} → Leaves (stored_at 1 0 half (Ok second)) answer after
           → Leaves (record_together l (e ∷ f ∷ [])) (done []) after
-      both_stored {answer} {after} r h =
-          let second_done : number_of (record_all (record_all l e).left f) ≡ 0 = ap number_of second_stored ∙ stored_number (record_all l e).left second r in
+      both_stored {answer} {after} h =
+          let stored = second_stored (Ok second) is in
+          let second_done : number_of (record_all (record_all l e).left f) ≡ 0 = ap number_of stored ∙ stored_number (record_all l e).left second in
           let whole : after ≡ (record_all (record_all l e).left f).left =
-          h.left ∙ ap (λ (m : HeldList). (stored_at 1 0 m second).left) half_is ∙ ap (λ (o : Outcome HeldList). o.left) (sym second_stored) in
+          h.left ∙ ap (λ (m : HeldList). (stored_at 1 0 m (Ok second)).left) half_is ∙ ap (λ (o : Outcome HeldList). o.left) (sym stored) in
           together_done l (e ∷ f ∷ []) (record_all (record_all l e).left f).left
           (each_accepted l e (f ∷ []) first_done ∙ each_accepted (record_all l e).left f [] second_done) whole

@@ -15,10 +15,10 @@ use lib.ListN.{length, get_or, take}
 use lib.Seq.{get_or-take, length-take-le}
 use borrow.Author.Tests.{eqb-true, eqb-false, ltb-true}
 use Rattle.field.specs.Elements.{p}
+use Rattle.std.specs.Prelude.{Ok, Err}
 use Rattle.words.specs.Answers.{done}
 use Rattle.words.specs.Outcomes.{Outcome}
-use Rattle.words.specs.declared.Judgement.{Judgement}
-use Rattle.words.specs.declared.Judgement.TheVariants.{Fine, Declined}
+use Rattle.words.specs.Refusals.{Judgement, Fine, Declined}
 use Rattle.words.specs.declared.Refusal.TheVariants.{Shape, Wide, ZeroDivisor}
 use Rattle.words.proofs.Judgements.{or_both, decline_not_fine}
 use Rattle.isa.specs.Opcodes.{op_split, op_lt, op_div_mod, op_merkle_step, op_merkle_step_mem, is_opcode}
@@ -27,9 +27,9 @@ use Rattle.isa.proofs.Entries.{admissible_fine}
 use Rattle.list.specs.Holds.{HeldList, held_shape}
 use Rattle.list_record.specs.Recording.{record_each}
 use Rattle.list_record.proofs.RecordEach.{number_of, each_append}
-use Rattle.list_replay.specs.declared.StepEntries.{StepEntries}
-use Rattle.list_replay.specs.declared.StepEntries.TheVariants.{One, Two, Refused}
-use Rattle.list_replay.specs.Steps.{Step, step_width, step_at, split_step, div_mod_step, merkle_step, step_entries, entries_of}
+use Rattle.list_replay.specs.declared.Step.{Step}
+use Rattle.list_replay.specs.declared.StepEntries.TheVariants.{One, Two}
+use Rattle.list_replay.specs.Steps.{step_width, step_at, Entries, split_step, div_mod_step, merkle_step, step_entries, entries_of}
 use Rattle.list_replay.specs.Replay.{step_as, step_all, stopped_at, replay_from, replay_reason, replayed_as, replay_all, entries_from, trace_entries}
 use Rattle.list_replay.proofs.Walks.{declined_positive, together_each, together_number, from_accepted, from_refused, walks}
 
@@ -136,10 +136,10 @@ replay_prefix l trace k fine e =
 pub step_records : (l : HeldList) (s : Step) → number_of (step_all l s) ≡ 0 → record_each l (entries_of (step_entries s)) ≡ step_all l s
 unfolding step_all
 step_records l s z = go (step_entries s) z where
-  go : (es : StepEntries) → number_of (step_as l es) ≡ 0 → record_each l (entries_of es) ≡ step_as l es
-  go (One e) z = sym (together_each l (e ∷ []) (sym (together_number l (e ∷ [])) ∙ z))
-  go (Two e f) z = sym (together_each l (e ∷ f ∷ []) (sym (together_number l (e ∷ f ∷ [])) ∙ z))
-  go (Refused k) z = absurd (declined_positive k z)
+  go : (es : Entries) → number_of (step_as l es) ≡ 0 → record_each l (entries_of es) ≡ step_as l es
+  go (Ok (One e)) z = sym (together_each l (e ∷ []) (sym (together_number l (e ∷ [])) ∙ z))
+  go (Ok (Two e f)) z = sym (together_each l (e ∷ f ∷ []) (sym (together_number l (e ∷ f ∷ [])) ∙ z))
+  go (Err k) z = absurd (declined_positive k z)
 
 walk_records : (l : HeldList) (trace : List ℕ) (i n : ℕ) → number_of (replay_from l trace i n) ≡ 0
     → record_each l (entries_from trace i n) ≡ record { answer = done []; left = (replay_from l trace i n).left }
@@ -181,10 +181,10 @@ replay_records l trace z =
 
 -- ---- what split, div_mod and the Merkle steps record is admitted
 
-abbrev pub AllAdmitted : StepEntries → Type 0
-AllAdmitted (One e) = judge_entry e ≡ Fine
-AllAdmitted (Two e f) = (judge_entry e ≡ Fine) × (judge_entry f ≡ Fine)
-AllAdmitted (Refused reason) = Unit {0}
+abbrev pub AllAdmitted : Entries → Type 0
+AllAdmitted (Ok (One e)) = judge_entry e ≡ Fine
+AllAdmitted (Ok (Two e f)) = (judge_entry e ≡ Fine) × (judge_entry f ≡ Fine)
+AllAdmitted (Err reason) = Unit {0}
 
 split_fine : (a b : ℕ) → a < rhs_limit → b < rhs_limit → judge_entry (entry op_split a b) ≡ Fine
 unfolding is_opcode
@@ -196,20 +196,20 @@ lt_fine a b h k = admissible_fine (entry op_lt a b) (record { known = refl; left
 
 split_admitted : (v : ℕ) → AllAdmitted (split_step v)
 split_admitted v = go (ltb v p) refl where
-  go : (t : Bool) → ltb v p ≡ t → AllAdmitted (cond t (One (entry op_split (v % 4294967296) (v / 4294967296))) (Refused Wide))
+  go : (t : Bool) → ltb v p ≡ t → AllAdmitted (cond t (Ok (One (entry op_split (v % 4294967296) (v / 4294967296)))) (Err Wide))
   go true q = let h = ltb-true v p q in split_fine (v % 4294967296) (v / 4294967296) (omega arith) (omega arith)
   go false q = tt
 
 merkle_admitted : (i : ℕ) → AllAdmitted (merkle_step i)
 merkle_admitted i = go (ltb i rhs_limit) refl where
-  go : (t : Bool) → ltb i rhs_limit ≡ t → AllAdmitted (cond t (One (entry op_split i (i / 2))) (Refused Wide))
+  go : (t : Bool) → ltb i rhs_limit ≡ t → AllAdmitted (cond t (Ok (One (entry op_split i (i / 2)))) (Err Wide))
   go true q = let h = ltb-true i rhs_limit q in split_fine i (i / 2) h (omega arith)
   go false q = tt
 
 div_mod_admitted : (n d : ℕ) → AllAdmitted (div_mod_step n d)
 div_mod_admitted n d = go (ltb n rhs_limit) refl (ltb d rhs_limit) refl (eqb d 0) refl where
   go : (s : Bool) → ltb n rhs_limit ≡ s → (t : Bool) → ltb d rhs_limit ≡ t → (z : Bool) → eqb d 0 ≡ z
-      → AllAdmitted (cond (not (s && t)) (Refused Wide) (cond z (Refused ZeroDivisor) (Two (entry op_lt (n % d) d) (entry op_split n (n / d)))))
+      → AllAdmitted (cond (not (s && t)) (Err Wide) (cond z (Err ZeroDivisor) (Ok (Two (entry op_lt (n % d) d) (entry op_split n (n / d))))))
   go true q true r true z = tt
   go true q true r false z =
       let a = ltb-true n rhs_limit q in

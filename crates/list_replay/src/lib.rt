@@ -1,289 +1,231 @@
 // Replay: a trace of steps goes onto a list, in order. A step is three words: its opcode, its first and its second value.
 #![tactic(auto)]
 
-ghost use Rattle.std.specs.Prelude.{◌≡◌, ◌≢◌, [], ◌∷◌};
+ghost use Rattle.std.specs.Prelude.{◌≡◌, ◌≢◌, ◌+◌, ◌*◌, ◌<◌, [], ◌∷◌, length, Ok};
 ghost use Rattle.words.specs.Outcomes.{Leaves, completed_answer};
-ghost use Rattle.list.specs.Holds.{held_list};
-ghost use Rattle.list_replay.specs.Steps.{split_step, div_mod_step, merkle_step, step_entries};
+ghost use Rattle.list.specs.Lent.{held_in_mut, SameArrays};
+ghost use Rattle.list_replay.specs.Steps.{Names, step_width, step_at, split_step, div_mod_step, merkle_step, step_entries};
 ghost use Rattle.list_replay.specs.Replay.{record_together, step_all, replay_all, replayed_answer};
-ghost use Rattle.list_replay.specs.Together.{second_place, reason_at};
+ghost use Rattle.list_replay.specs.Together.{second_place};
 
 use field::BFieldElement;
-use isa::{
-    AND, DIV_MOD, LOG_2_FLOOR, LT, MERKLE_STEP, MERKLE_STEP_MEM, OPERAND_LIMIT, POP_COUNT, POW,
-    SPLIT, U32TableEntry, XOR,
-};
+use isa::{OPERAND_LIMIT, Opcode, U32TableEntry};
+use list::LentListMut;
+use list_record::Place;
 pub use list_record::Sizes;
-use list_record::{Place, Recorded};
-use words::{Completed, Judgement, Refusal};
+use words::Refusal;
 
 // The words of a step.
 pub const STEP_WIDTH: usize = 3;
 
-// What a step records: an entry, or two, both or neither; or why it is refused.
+// The instructions that a trace names, each with its number.
+#[derive(Clone, Copy, PartialEq, Eq, Debug)]
+pub enum Instruction {
+    Split = 4,
+    Lt = 6,
+    Log2Floor = 12,
+    And = 14,
+    DivMod = 20,
+    Xor = 22,
+    PopCount = 28,
+    Pow = 30,
+    MerkleStep = 36,
+    MerkleStepMem = 44,
+}
+
+impl TryFrom<u64> for Instruction {
+    type Error = Refusal;
+
+    ghost try_from_gives = { Names };
+
+    // Reason 2: the word is the number of none.
+    fn try_from(word: u64) -> Result<Self, Refusal>
+        ensures { Names word result }
+    {
+        match word {
+            4 => Ok(Instruction::Split),
+            6 => Ok(Instruction::Lt),
+            12 => Ok(Instruction::Log2Floor),
+            14 => Ok(Instruction::And),
+            20 => Ok(Instruction::DivMod),
+            22 => Ok(Instruction::Xor),
+            28 => Ok(Instruction::PopCount),
+            30 => Ok(Instruction::Pow),
+            36 => Ok(Instruction::MerkleStep),
+            44 => Ok(Instruction::MerkleStepMem),
+            _ => Err(Refusal::Stranger),
+        }
+    }
+}
+
+// A step of a trace; any words.
+#[derive(Clone, Copy)]
+pub struct Step {
+    pub opcode: u64,
+    pub first: u64,
+    pub second: u64,
+}
+
+// What a step records: an entry, or two, both or neither.
 #[derive(Clone, Copy)]
 pub enum StepEntries {
     One(U32TableEntry),
     Two(U32TableEntry, U32TableEntry),
-    Refused(Refusal),
 }
 
-// All steps are done, this many; or the reason of the first refused one, and how many went before it.
+// The reason of the first refused step, and how many went before it.
 #[derive(Clone, Copy)]
-pub enum Replayed {
-    Done(usize),
-    Stopped { reason: Refusal, done: usize },
+pub struct Stopped {
+    pub reason: Refusal,
+    pub done: usize,
 }
 
-// The answer of a replay, and the list's sizes after it.
-#[derive(Clone, Copy)]
-pub struct Replaying {
-    pub answer: Replayed,
-    pub sizes: Sizes,
-}
-
-// The answer of one step, and the list's sizes after it.
-#[derive(Clone, Copy)]
-pub struct Stepping {
-    pub answer: Completed,
-    pub sizes: Sizes,
+// The three words of step i.
+#[tactic(auto, unfolding(crate::specs::Steps::step_at))]
+fn step_at(trace: &[u64], i: usize) -> Step
+    requires { step_width * i + 2 < length trace.now }
+    ensures { result ≡ step_at trace.now i }
+{
+    let at = STEP_WIDTH * i;
+    Step {
+        opcode: trace[at],
+        first: trace[at + 1],
+        second: trace[at + 2],
+    }
 }
 
 // Both halves of a value below p.
-fn split_step(value: u64) -> StepEntries
+fn split_step(value: u64) -> Result<StepEntries, Refusal>
     ensures { result ≡ split_step value }
 {
     if value < BFieldElement::P {
-        StepEntries::One(U32TableEntry::new(SPLIT, value % OPERAND_LIMIT, value / OPERAND_LIMIT))
+        Ok(StepEntries::One(U32TableEntry::new(
+            Opcode::Split as u64,
+            value % OPERAND_LIMIT,
+            value / OPERAND_LIMIT,
+        )))
     } else {
-        StepEntries::Refused(Refusal::Wide)
+        Err(Refusal::Wide)
     }
 }
 
 // The remainder is below the divisor, and both numbers have 32 bits.
-fn div_mod_step(numerator: u64, divisor: u64) -> StepEntries
+fn div_mod_step(numerator: u64, divisor: u64) -> Result<StepEntries, Refusal>
     ensures { result ≡ div_mod_step numerator divisor }
 {
-    if numerator < OPERAND_LIMIT {
-        if divisor < OPERAND_LIMIT {
-            if divisor == 0 {
-                return StepEntries::Refused(Refusal::ZeroDivisor);
-            }
-            let less = U32TableEntry::new(LT, numerator % divisor, divisor);
-            let halves = U32TableEntry::new(SPLIT, numerator, numerator / divisor);
-            return StepEntries::Two(less, halves);
-        }
+    if OPERAND_LIMIT <= numerator || OPERAND_LIMIT <= divisor {
+        Err(Refusal::Wide)
+    } else if divisor == 0 {
+        Err(Refusal::ZeroDivisor)
+    } else {
+        let less = U32TableEntry::new(Opcode::Lt as u64, numerator % divisor, divisor);
+        let halves = U32TableEntry::new(Opcode::Split as u64, numerator, numerator / divisor);
+        Ok(StepEntries::Two(less, halves))
     }
-    StepEntries::Refused(Refusal::Wide)
 }
 
 // An index of 32 bits and its half.
-fn merkle_step(index: u64) -> StepEntries
+fn merkle_step(index: u64) -> Result<StepEntries, Refusal>
     ensures { result ≡ merkle_step index }
 {
     if index < OPERAND_LIMIT {
-        StepEntries::One(U32TableEntry::new(SPLIT, index, index / 2))
+        Ok(StepEntries::One(U32TableEntry::new(Opcode::Split as u64, index, index / 2)))
     } else {
-        StepEntries::Refused(Refusal::Wide)
+        Err(Refusal::Wide)
     }
 }
 
 // What a step records. Whether the entry of one of the six is admitted, recording decides.
-pub fn step_entries(opcode: u64, first: u64, second: u64) -> StepEntries
-    ensures { result ≡ step_entries (record { opcode = opcode; first = first; second = second }) }
+pub fn step_entries(step: Step) -> Result<StepEntries, Refusal>
+    ensures { result ≡ step_entries step }
 {
-    match opcode {
-        SPLIT => split_step(first),
-        LOG_2_FLOOR | POP_COUNT => StepEntries::One(U32TableEntry::new(opcode, first, 0)),
-        LT | AND | POW => StepEntries::One(U32TableEntry::new(opcode, first, second)),
-        XOR => StepEntries::One(U32TableEntry::new(AND, first, second)),
-        DIV_MOD => div_mod_step(first, second),
-        MERKLE_STEP | MERKLE_STEP_MEM => merkle_step(first),
-        _ => StepEntries::Refused(Refusal::Stranger),
+    let Step {
+        opcode,
+        first,
+        second,
+    } = step;
+    match Instruction::try_from(opcode)? {
+        Instruction::Split => split_step(first),
+        Instruction::Log2Floor => Ok(StepEntries::One(U32TableEntry::new(opcode, first, 0))),
+        Instruction::PopCount => Ok(StepEntries::One(U32TableEntry::new(opcode, first, 0))),
+        Instruction::Lt => Ok(StepEntries::One(U32TableEntry::new(opcode, first, second))),
+        Instruction::And => Ok(StepEntries::One(U32TableEntry::new(opcode, first, second))),
+        Instruction::Pow => Ok(StepEntries::One(U32TableEntry::new(opcode, first, second))),
+        Instruction::Xor => Ok(StepEntries::One(U32TableEntry::new(
+            Opcode::And as u64,
+            first,
+            second,
+        ))),
+        Instruction::DivMod => div_mod_step(first, second),
+        Instruction::MerkleStep => merkle_step(first),
+        Instruction::MerkleStepMem => merkle_step(first),
     }
 }
 
 // The second entry's place once the first is stored: a second new key needs a second unused place.
-fn second_place(sizes: Sizes, first: Place, second: Place) -> Place
-    ensures { result ≡ second_place sizes first second }
+fn second_place(sizes: Sizes, first: Place, second: Place) -> Result<Place, Refusal>
+    ensures { result ≡ second_place sizes (Ok first) (Ok second) }
 {
-    match first {
-        Place::New(_) => match second {
-            Place::New(f) => {
-                if sizes.used < sizes.capacity {
-                    if 1 < sizes.capacity - sizes.used {
-                        return Place::New(f);
-                    }
-                }
-                Place::Refused(Refusal::ListFull)
+    match (first, second) {
+        (Place::New(_), Place::New(_)) => {
+            if sizes.capacity.saturating_sub(sizes.used) < 2 {
+                Err(Refusal::ListFull)
+            } else {
+                Ok(second)
             }
-            Place::Known(at) => Place::Known(at),
-            Place::Refused(reason) => Place::Refused(reason),
-        },
-        Place::Known(_) => second,
-        Place::Refused(_) => second,
-    }
-}
-
-// The reason against a place, if there is one.
-fn reason_at(place: Place) -> Judgement
-    ensures { result ≡ reason_at place }
-{
-    match place {
-        Place::Known(_) => Judgement::Fine,
-        Place::New(_) => Judgement::Fine,
-        Place::Refused(reason) => Judgement::Declined(reason),
+        }
+        _ => Ok(second),
     }
 }
 
 // Records two entries of different opcodes, both or neither. Both places are found before the first is stored.
-fn record_both(
-    sizes: Sizes,
-    keys: &mut [u64],
-    multiplicities: &mut [u64],
-    holds: &mut [u64],
-    e: U32TableEntry,
-    f: U32TableEntry,
-) -> Stepping
+fn record_both(list: &mut LentListMut, e: U32TableEntry, f: U32TableEntry) -> Result<(), Refusal>
     requires { e.opcode ≢ f.opcode }
-    ensures { Leaves (record_together (held_list sizes keys.old multiplicities.old holds.old) (e ∷ f ∷ [])) (completed_answer result.answer) (held_list result.sizes keys.new multiplicities.new holds.new) }
+    ensures outcome { Leaves (record_together (held_in_mut list.old) (e ∷ f ∷ [])) (completed_answer result) (held_in_mut list.new) }
+    ensures same_arrays { SameArrays list.old list.new }
 {
-    let first = list_record::find_place(
-        sizes,
-        keys,
-        multiplicities,
-        holds,
-        e.opcode,
-        e.left_operand,
-        e.right_operand,
-    );
-    if let Judgement::Declined(reason) = reason_at(first) {
-        return Stepping {
-            answer: Completed::Refused(reason),
-            sizes,
-        };
-    }
-    let ahead = list_record::find_place(
-        sizes,
-        keys,
-        multiplicities,
-        holds,
-        f.opcode,
-        f.left_operand,
-        f.right_operand,
-    );
-    let second = second_place(sizes, first, ahead);
-    if let Judgement::Declined(reason) = reason_at(second) {
-        return Stepping {
-            answer: Completed::Refused(reason),
-            sizes,
-        };
-    }
-    let half = list_record::store(sizes, keys, multiplicities, holds, first, 1, 0);
-    let between = half.sizes;
-    let whole = list_record::store(between, keys, multiplicities, holds, second, 1, 0);
-    let after = whole.sizes;
-    Stepping {
-        answer: Completed::Done,
-        sizes: after,
-    }
+    let first = list_record::find_place(&list.view(), e)?;
+    let ahead = list_record::find_place(&list.view(), f)?;
+    let second = second_place(list.sizes, first, ahead)?;
+    list_record::store(list, first, 1, 0);
+    list_record::store(list, second, 1, 0);
+    Ok(())
 }
 
 // Records what a step records; a refused step changes nothing.
-fn replay_step(
-    sizes: Sizes,
-    keys: &mut [u64],
-    multiplicities: &mut [u64],
-    holds: &mut [u64],
-    opcode: u64,
-    first: u64,
-    second: u64,
-) -> Stepping
-    ensures { Leaves (step_all (held_list sizes keys.old multiplicities.old holds.old) (record { opcode = opcode; first = first; second = second })) (completed_answer result.answer) (held_list result.sizes keys.new multiplicities.new holds.new) }
+fn replay_step(list: &mut LentListMut, step: Step) -> Result<(), Refusal>
+    ensures outcome { Leaves (step_all (held_in_mut list.old) step) (completed_answer result) (held_in_mut list.new) }
+    ensures same_arrays { SameArrays list.old list.new }
 {
-    match step_entries(opcode, first, second) {
-        StepEntries::One(e) => {
-            let r = list_record::record_u32_table_entry_by_value(
-                sizes,
-                keys,
-                multiplicities,
-                holds,
-                e.opcode,
-                e.left_operand,
-                e.right_operand,
-            );
-            let after = r.sizes;
-            let answer = r.answer;
-            match answer {
-                Recorded::At(_) => Stepping {
-                    answer: Completed::Done,
-                    sizes: after,
-                },
-                Recorded::Refused(reason) => Stepping {
-                    answer: Completed::Refused(reason),
-                    sizes: after,
-                },
-            }
+    match step_entries(step)? {
+        StepEntries::One(entry) => {
+            list_record::record_u32_table_entry(list, entry)?;
+            Ok(())
         }
-        StepEntries::Two(e, f) => record_both(sizes, keys, multiplicities, holds, e, f),
-        StepEntries::Refused(reason) => Stepping {
-            answer: Completed::Refused(reason),
-            sizes,
-        },
+        StepEntries::Two(e, f) => record_both(list, e, f),
     }
 }
 
-// The steps of a trace go onto the list in order, up to the first that is refused, which changes nothing.
-pub fn replay(
-    sizes: Sizes,
-    keys: &mut [u64],
-    multiplicities: &mut [u64],
-    holds: &mut [u64],
-    trace: &[u64],
-) -> Replaying
-    ensures { Leaves (replay_all (held_list sizes keys.old multiplicities.old holds.old) trace.now) (replayed_answer result.answer) (held_list result.sizes keys.new multiplicities.new holds.new) }
+// The steps of a trace go onto the list in order, up to the first that is refused, which changes nothing. The answer is how many they are.
+pub fn replay(list: &mut LentListMut, trace: &[u64]) -> Result<usize, Stopped>
+    ensures outcome { Leaves (replay_all (held_in_mut list.old) trace.now) (replayed_answer result) (held_in_mut list.new) }
+    ensures same_arrays { SameArrays list.old list.new }
 {
-    if let Judgement::Declined(reason) = list::held_shape(sizes, keys, multiplicities, holds) {
-        return Replaying {
-            answer: Replayed::Stopped { reason, done: 0 },
-            sizes,
-        };
+    // A refusal is handed on by hand: `map_err(..)?` was tried, and its proof did not close.
+    if let Err(reason) = list.view().held_shape() {
+        return Err(Stopped { reason, done: 0 });
     }
     if trace.len() % STEP_WIDTH != 0 {
-        return Replaying {
-            answer: Replayed::Stopped {
-                reason: Refusal::Shape,
-                done: 0,
-            },
-            sizes,
-        };
+        return Err(Stopped {
+            reason: Refusal::Shape,
+            done: 0,
+        });
     }
     let steps = trace.len() / STEP_WIDTH;
-    let mut held = sizes;
-    let mut i: usize = 0;
-    while i < steps {
-        let at = STEP_WIDTH * i;
-        let r = replay_step(
-            held,
-            keys,
-            multiplicities,
-            holds,
-            trace[at],
-            trace[at + 1],
-            trace[at + 2],
-        );
-        held = r.sizes;
-        let answer = r.answer;
-        if let Completed::Refused(reason) = answer {
-            return Replaying {
-                answer: Replayed::Stopped { reason, done: i },
-                sizes: held,
-            };
+    for done in 0..steps {
+        if let Err(reason) = replay_step(list, step_at(trace, done)) {
+            return Err(Stopped { reason, done });
         }
-        i += 1;
     }
-    Replaying {
-        answer: Replayed::Done(steps),
-        sizes: held,
-    }
+    Ok(steps)
 }

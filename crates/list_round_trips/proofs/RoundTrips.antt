@@ -15,7 +15,7 @@ use lib.Seq.{sets, length-sets}
 use Rattle.words.specs.Limits.{max_places}
 use Rattle.words.specs.Answers.{Answer, done}
 use Rattle.words.specs.Outcomes.{Outcome}
-use Rattle.words.specs.declared.Judgement.TheVariants.{Fine}
+use Rattle.words.specs.Refusals.{Fine}
 use Rattle.words.specs.LittleEndian.{le}
 use Rattle.words.specs.Places.{places, places_from}
 use Rattle.words.proofs.Outcomes.{outcome_fine, outcome_done}

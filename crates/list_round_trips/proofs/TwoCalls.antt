@@ -10,10 +10,7 @@ use Rattle.words.specs.Outcomes.{Outcome, Leaves}
 use Rattle.words.specs.declared.Refusal.{Refusal}
 use Rattle.words.proofs.Outcomes.{reason_told, unless_fine, unless_told}
 use Rattle.list.specs.Holds.{HeldList, section_list}
-use Rattle.list_stored.specs.declared.Read.{Read}
-use Rattle.list_stored.specs.declared.Read.TheVariants.{Entries, Refused}
-use Rattle.list_stored.specs.declared.Written.{Written}
-use Rattle.list_stored.specs.declared.Written.TheVariants.{Length, Refused as WriteRefused}
+use Rattle.std.specs.Prelude.{Result, Ok, Err}
 use Rattle.list_bytes.specs.Packed.{stored_places, stored_length, stored_bytes}
 use Rattle.list_stored.specs.Stored.{read_reason, read_all, read_answer, write_reason, write_all, written_answer}
 use Rattle.list_round_trips.specs.RoundTrips.{write_then_read, IsWrittenThenRead, read_then_write, IsReadThenWritten}
@@ -22,7 +19,7 @@ use Rattle.list_stored.proofs.Reasons.{writable}
 use Rattle.list_round_trips.proofs.RoundTrips.{read_answered, write_answered, written_is, written_length, written_reads_back, read_writes_back}
 
 module _ (h : HeldList) (out : List ℕ) where
-  pub written_within : (n : ℕ) (after : List ℕ) → Leaves (write_all h out) (written_answer (Length n)) after → n ≤ length after
+  pub written_within : (n : ℕ) (after : List ℕ) → Leaves (write_all h out) (written_answer (Ok n)) after → n ≤ length after
   written_within n after w =
       let e = write_answered h out n (sym w.answer) in
       let m = written_length h out n (sym w.answer) in
@@ -32,8 +29,8 @@ module _ (h : HeldList) (out : List ℕ) where
       omega arith
 
   module _ (to : HeldList) where
-    pub write_refused : (k : Refusal) (after : List ℕ) → Leaves (write_all h out) (written_answer (WriteRefused k)) after
-        → IsWrittenThenRead h out to (Refused k) after to
+    pub write_refused : (k : Refusal) (after : List ℕ) → Leaves (write_all h out) (written_answer (Err k)) after
+        → IsWrittenThenRead h out to (Err k) after to
     unfolding write_then_read write_all
     write_refused k after w = record {
       exact = unless_told (write_reason h out) _ _ _ k w.answer to _;
@@ -41,7 +38,7 @@ module _ (h : HeldList) (out : List ℕ) where
       law = λ e. absurd (reason_told (write_reason h out) _ _ _ k w.answer e);
     }
 
-    pub then_read : (n : ℕ) (bytes : List ℕ) (r : Read) (after : HeldList) → Leaves (write_all h out) (written_answer (Length n)) bytes
+    pub then_read : (n : ℕ) (bytes : List ℕ) (r : Result ℕ Refusal) (after : HeldList) → Leaves (write_all h out) (written_answer (Ok n)) bytes
         → Leaves (read_all to (take n bytes)) (read_answer r) after → IsWrittenThenRead h out to r bytes after
     unfolding write_then_read
     then_read n bytes r after w d =
@@ -57,8 +54,8 @@ module _ (h : HeldList) (out : List ℕ) where
         }
 
 module _ (h : HeldList) (s out : List ℕ) where
-  pub read_refused : (k : Refusal) (after : HeldList) → Leaves (read_all h s) (read_answer (Refused k)) after
-      → IsReadThenWritten h s out (WriteRefused k) after out
+  pub read_refused : (k : Refusal) (after : HeldList) → Leaves (read_all h s) (read_answer (Err k)) after
+      → IsReadThenWritten h s out (Err k) after out
   unfolding read_then_write read_all
   read_refused k after d = record {
     exact = unless_told (read_reason h s) _ _ _ k d.answer out _;
@@ -66,8 +63,8 @@ module _ (h : HeldList) (s out : List ℕ) where
     law = λ e. absurd (reason_told (read_reason h s) _ _ _ k d.answer e);
   }
 
-  pub then_written : (n : ℕ) (after : HeldList) (r : Written) (bytes : List ℕ) → ((j : ℕ) → get_or s j 0 < 256)
-      → Leaves (read_all h s) (read_answer (Entries n)) after → Leaves (write_all after out) (written_answer r) bytes → IsReadThenWritten h s out r after bytes
+  pub then_written : (n : ℕ) (after : HeldList) (r : Result ℕ Refusal) (bytes : List ℕ) → ((j : ℕ) → get_or s j 0 < 256)
+      → Leaves (read_all h s) (read_answer (Ok n)) after → Leaves (write_all after out) (written_answer r) bytes → IsReadThenWritten h s out r after bytes
   unfolding read_then_write
   then_written n after r bytes b d w =
       let e = read_answered h s n (sym d.answer) in

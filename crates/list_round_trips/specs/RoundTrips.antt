@@ -1,15 +1,14 @@
 -- The two round trips of stored lists: what was written reads back as the counted keys with their counts, and what was accepted, without a
 -- multiplicity 0, is written again in the new form, to the same bytes where it has that form. Holds are "not stored in files": what reads back has none.
-use Rattle.std.specs.Prelude.{ℕ, ◌≤◌, ◌<◌, ◌≡◌, ◌≢◌, List, [], ◌∷◌, ◌++◌, length, take, drop}
+use Rattle.std.specs.Prelude.{ℕ, ◌≤◌, ◌<◌, ◌≡◌, ◌≢◌, List, [], ◌∷◌, ◌++◌, length, take, drop, Result}
 use Rattle.words.specs.Answers.{done}
 use Rattle.words.specs.Outcomes.{Outcome, Leaves, unless_declined}
-use Rattle.words.specs.declared.Judgement.TheVariants.{Fine}
+use Rattle.words.specs.Refusals.{Fine}
+use Rattle.words.specs.declared.Refusal.{Refusal}
 use Rattle.list.specs.Lists.{U32List, capacity, used, key_at, entry_at, multiplicity_at}
 use Rattle.list.specs.Holds.{HeldList, hold_at, held_shape, section_list}
 use Rattle.list_bytes.specs.Packed.{stored_places, stored_length, stored_n, stored_multiplicity}
 use Rattle.list_stored.specs.Stored.{read_reason, read_all, read_answer, write_reason, write_all, written_answer}
-use Rattle.list_stored.specs.declared.Read.{Read}
-use Rattle.list_stored.specs.declared.Written.{Written}
 
 -- "a written list reads back reduced": a has as many entries as b, and its keys are, word by word and in their order, the entries that admission
 -- hands back of b's, with b's multiplicities
@@ -43,7 +42,7 @@ write_then_read h out to =
 
 -- What both calls leave, and the law: a list that is not refused reads back as the list of its counted keys, onto any list of right shape that has no
 -- key, and room for it
-pub record IsWrittenThenRead (h : HeldList) (out : List ℕ) (to : HeldList) (r : Read) (out_after : List ℕ) (after : HeldList) : Type 0 where
+pub record IsWrittenThenRead (h : HeldList) (out : List ℕ) (to : HeldList) (r : Result ℕ Refusal) (out_after : List ℕ) (after : HeldList) : Type 0 where
   pub exact : Leaves (write_then_read h out to) (read_answer r) after
   pub bytes : out_after ≡ (write_all h out).left
   pub law : write_reason h out ≡ Fine → held_shape to ≡ Fine → used to.list ≡ 0 → used (section_list h) ≤ capacity to.list
@@ -59,7 +58,7 @@ NoneZero s = (i : ℕ) → i < stored_n s → stored_multiplicity s i ≢ 0
 
 -- What both calls leave, and the law: bytes that are not refused, without a key of multiplicity 0, are written again in the new form, wherever there is
 -- room for it, whatever words stood in the holds before
-pub record IsReadThenWritten (h : HeldList) (s out : List ℕ) (r : Written) (after : HeldList) (out_after : List ℕ) : Type 0 where
+pub record IsReadThenWritten (h : HeldList) (s out : List ℕ) (r : Result ℕ Refusal) (after : HeldList) (out_after : List ℕ) : Type 0 where
   pub exact : Leaves (read_then_write h s out) (written_answer r) out_after
   pub list : after ≡ (read_all h s).left
   pub law : read_reason h s ≡ Fine → NoneZero s → stored_length (stored_n s) ≤ length out

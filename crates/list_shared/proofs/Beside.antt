@@ -5,18 +5,21 @@ use mathlib.Core.Path.{◌≡◌, refl, sym, ap, ◌∙◌}
 use mathlib.Core.Bool.{Bool, true, false, not, ◌&&◌}
 use mathlib.Core.List.{List, [], ◌∷◌}
 use native.Mathlib.Omega.{arith}
-use lib.Dec.{eqb}
+use lib.Dec.{eqb, ltb}
+use borrow.Author.Tests.{ltb-true, ltb-false}
+use native.Mathlib.Nat.{min-eq_left, min-eq_right, le_of_lt}
+use Prim.Native.Nat.{min}
 use lib.ListN.{length, set, replicate, length-set}
 use lib.Seq.{sets}
 use Rattle.words.specs.Answers.{Answer}
 use Rattle.words.specs.Outcomes.{Outcome, Leaves}
-use Rattle.words.specs.declared.Judgement.TheVariants.{Fine, Declined}
+use Rattle.words.specs.Refusals.{Fine, Declined}
 use Rattle.words.specs.declared.Refusal.TheVariants.{Shape}
 use Rattle.words.proofs.Judgements.{decline_true, decline_false}
 use Rattle.list.specs.Lists.{capacity, used}
 use Rattle.list.specs.Holds.{HeldList}
 use Rattle.list_shared.specs.Shared.{Counts, other_shape, cleared, beside}
-use Rattle.list_shared.specs.Lent.{counts, shared}
+use Rattle.list_shared.specs.Lent.{shared}
 
 -- ---- the other's shape
 
@@ -39,23 +42,19 @@ module _ (h : HeldList) (other : Counts) where
     unfolding beside
     beside_wrong e taken = rw (shape_wrong e taken) (record { answer = refl; left = refl })
 
-    pub beside_done : {test : Bool} {given : Answer} {own : HeldList} {ms hs : List ℕ} → test ≡ fits → not test ≡ false → Leaves a given own
-        → ms ≡ sets other.multiplicities (used h.list) (replicate (used own.list - used h.list) 0)
-        → hs ≡ sets other.holds (used h.list) (replicate (used own.list - used h.list) 0)
-        → Leaves (beside wrong a h other) given (shared own (counts ms hs))
-    unfolding beside cleared
-    beside_done {given = given} {own} {ms} {hs} e left w f g =
-        rw (shape_right e left)
+    pub beside_done : {test : Bool} {given : Answer} {own : HeldList} {left : Counts} → test ≡ fits → not test ≡ false → Leaves a given own
+        → left ≡ cleared (used h.list) (used own.list) other
+        → Leaves (beside wrong a h other) given (shared own left)
+    unfolding beside
+    beside_done {given = given} {own} {left} e taken w f =
+        rw (shape_right e taken)
         (record {
           answer = w.answer;
-          left =
-              same w.left
-              (f ∙ ap (λ (x : HeldList). sets other.multiplicities (used h.list) (replicate (used x.list - used h.list) 0)) w.left)
-              (g ∙ ap (λ (x : HeldList). sets other.holds (used h.list) (replicate (used x.list - used h.list) 0)) w.left);
+          left = same w.left (f ∙ ap (λ (x : HeldList). cleared (used h.list) (used x.list) other) w.left);
         })
       where
-        same : {own' : HeldList} {ns gs : List ℕ} → own ≡ own' → ms ≡ ns → hs ≡ gs → shared own (counts ms hs) ≡ shared own' (counts ns gs)
-        same p q r = rw (p, q, r) refl
+        same : {own' : HeldList} {other' : Counts} → own ≡ own' → left ≡ other' → shared own left ≡ shared own' other'
+        same p q = rw (p, q) refl
 
 -- ---- clearing places that an array does not have
 
@@ -77,3 +76,14 @@ capped (suc k) (suc n) ws i h q = capped k n (set ws i 0) (suc i) (omega (arith,
 pub clear_capped : {after : List ℕ} (ws : List ℕ) (from to : ℕ) → length ws < to → after ≡ sets ws from (replicate (length ws - from) 0)
     → after ≡ sets ws from (replicate (to - from) 0)
 clear_capped ws from to h e = e ∙ capped (length ws - from) (to - from) ws from (omega arith) (omega arith)
+
+-- up to a place, or to the array's end where that is nearer
+pub clear_to_end : {after : List ℕ} (ws : List ℕ) (from to : ℕ) {end : ℕ} → end ≡ min to (length ws) → after ≡ sets ws from (replicate (end - from) 0)
+    → after ≡ sets ws from (replicate (to - from) 0)
+clear_to_end {after} ws from to {end} m e = go (ltb (length ws) to) refl where
+  at : {n : ℕ} → end ≡ n → after ≡ sets ws from (replicate (n - from) 0)
+  at q = e ∙ ap (λ (n : ℕ). sets ws from (replicate (n - from) 0)) q
+
+  go : (s : Bool) → ltb (length ws) to ≡ s → after ≡ sets ws from (replicate (to - from) 0)
+  go true q = clear_capped ws from to (ltb-true _ _ q) (at (m ∙ min-eq_right (le_of_lt (ltb-true _ _ q))))
+  go false q = at (m ∙ min-eq_left (ltb-false _ _ q))

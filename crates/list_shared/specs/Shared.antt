@@ -5,9 +5,7 @@ use Rattle.std.specs.Prelude.{ℕ, ◌-◌, not, ◌&&◌, List, [], ◌∷◌, 
 use Rattle.std.proofs.lemmas.List.Edits.{sets}
 use Rattle.words.specs.Answers.{Answer, declined}
 use Rattle.words.specs.Outcomes.{Outcome}
-use Rattle.words.specs.Refusals.{refusal_number, decline_if}
-use Rattle.words.specs.declared.Judgement.{Judgement}
-use Rattle.words.specs.declared.Judgement.TheVariants.{Fine, Declined}
+use Rattle.words.specs.Refusals.{refusal_number, decline_if, Judgement, Fine, Declined}
 use Rattle.words.specs.declared.Refusal.TheVariants.{Shape}
 use Rattle.isa.specs.declared.U32TableEntry.{U32TableEntry}
 use Rattle.list.specs.Lists.{capacity, used}

@@ -5,168 +5,127 @@
 ghost use Rattle.std.specs.Prelude.{◌≡◌, ◌&&◌, ◌-◌, eqb, length, replicate};
 ghost use Rattle.std.proofs.lemmas.List.Edits.{sets};
 ghost use Rattle.words.specs.Outcomes.{Leaves};
-ghost use Rattle.isa.specs.Entries.{entry};
-ghost use Rattle.list.specs.Holds.{held_list};
+ghost use Rattle.list.specs.Lent.{held_in_mut, SameArrays};
 ghost use Rattle.list_record.specs.Recording.{recorded_answer};
 ghost use Rattle.list_replay.specs.Replay.{replayed_answer};
 ghost use Rattle.list_stored.specs.Stored.{read_answer};
-ghost use Rattle.list_shared.specs.Shared.{record_shared, hold_shared, replay_shared, read_shared};
-ghost use Rattle.list_shared.specs.Lent.{counts, shared};
+ghost use Rattle.list_shared.specs.Shared.{cleared, record_shared, hold_shared, replay_shared, read_shared};
+ghost use Rattle.list_shared.specs.Lent.{counts_in, shared, SameCounts};
 
-use list::Sizes;
-use list_record::{Recorded, Recording};
-use list_replay::{Replayed, Replaying};
-use list_stored::{Read, Reading};
+use isa::U32TableEntry;
+use list::LentListMut;
+use list_replay::Stopped;
 use words::Refusal;
 
-// Whether the other's arrays have a word a place.
-fn other_fits(sizes: Sizes, other_multiplicities: &[u64], other_holds: &[u64]) -> bool
-    ensures { result ≡ (eqb (length other_multiplicities.now) sizes.capacity && eqb (length other_holds.now) sizes.capacity) }
-{
-    if other_multiplicities.len() != sizes.capacity {
-        return false;
+// The multiplicities and the holds of the other recorder, one each a place, lent to be changed.
+#[derive(Drop)]
+pub struct OtherCounts<'a> {
+    pub multiplicities: &'a mut [u64],
+    pub holds: &'a mut [u64],
+}
+
+impl OtherCounts<'_> {
+    // Whether both arrays have a word a place.
+    fn fits(&self, capacity: usize) -> bool
+        ensures { result ≡ (eqb (length self.now.multiplicities.now) capacity && eqb (length self.now.holds.now) capacity) }
+    {
+        self.multiplicities.len() == capacity && self.holds.len() == capacity
     }
-    if other_holds.len() != sizes.capacity {
-        return false;
+
+    // At places `from` to `to` − 1 there is no count and no hold.
+    #[tactic(auto, unfolding(crate::specs::Shared::cleared))]
+    fn clear(&mut self, from: usize, to: usize)
+        ensures counts { counts_in self.new ≡ cleared from to (counts_in self.old) }
+        ensures same_counts { SameCounts self.old self.new }
+    {
+        clear(self.multiplicities, from, to);
+        clear(self.holds, from, to);
     }
-    true
 }
 
 // Places `from` to `to` − 1 of an array become 0, those that it has.
 fn clear(counts: &mut [u64], from: usize, to: usize)
     ensures { counts.new ≡ sets counts.old from (replicate (to - from) 0) }
 {
-    let end = counts.len();
-    if end < to {
-        list::clear_places(counts, from, end);
-        return;
-    }
-    list::clear_places(counts, from, to);
-}
-
-// At places `from` to `to` − 1 the other has no count and no hold.
-fn clear_other(other_multiplicities: &mut [u64], other_holds: &mut [u64], from: usize, to: usize)
-    ensures { (other_multiplicities.new ≡ sets other_multiplicities.old from (replicate (to - from) 0)) × (other_holds.new ≡ sets other_holds.old from (replicate (to - from) 0)) }
-{
-    clear(other_multiplicities, from, to);
-    clear(other_holds, from, to);
+    let end = to.min(counts.len());
+    list::clear_places(counts, from, end);
 }
 
 // A recording by one of the two.
 pub fn record_shared(
-    sizes: Sizes,
-    keys: &mut [u64],
-    multiplicities: &mut [u64],
-    holds: &mut [u64],
-    other_multiplicities: &mut [u64],
-    other_holds: &mut [u64],
-    opcode: u64,
-    left_operand: u64,
-    right_operand: u64,
-) -> Recording
-    ensures { Leaves (record_shared (held_list sizes keys.old multiplicities.old holds.old) (counts other_multiplicities.old other_holds.old) (entry opcode left_operand right_operand)) (recorded_answer result.answer) (shared (held_list result.sizes keys.new multiplicities.new holds.new) (counts other_multiplicities.new other_holds.new)) }
+    list: &mut LentListMut,
+    other: &mut OtherCounts,
+    entry: U32TableEntry,
+) -> Result<usize, Refusal>
+    ensures outcome { Leaves (record_shared (held_in_mut list.old) (counts_in other.old) entry) (recorded_answer result) (shared (held_in_mut list.new) (counts_in other.new)) }
+    ensures same_arrays { SameArrays list.old list.new }
+    ensures same_counts { SameCounts other.old other.new }
 {
-    if !other_fits(sizes, other_multiplicities, other_holds) {
-        return Recording {
-            answer: Recorded::Refused(Refusal::Shape),
-            sizes,
-        };
+    if !other.fits(list.sizes.capacity) {
+        return Err(Refusal::Shape);
     }
-    let recording = list_record::record_lending(
-        sizes,
-        keys,
-        multiplicities,
-        holds,
-        opcode,
-        left_operand,
-        right_operand,
-    );
-    let to = recording.sizes.used;
-    clear_other(other_multiplicities, other_holds, sizes.used, to);
-    recording
+    let from = list.sizes.used;
+    let answer = list_record::record_u32_table_entry(list, entry);
+    other.clear(from, list.sizes.used);
+    answer
 }
 
 // A hold by one of the two.
 pub fn hold_shared(
-    sizes: Sizes,
-    keys: &mut [u64],
-    multiplicities: &mut [u64],
-    holds: &mut [u64],
-    other_multiplicities: &mut [u64],
-    other_holds: &mut [u64],
-    opcode: u64,
-    left_operand: u64,
-    right_operand: u64,
-) -> Recording
-    ensures { Leaves (hold_shared (held_list sizes keys.old multiplicities.old holds.old) (counts other_multiplicities.old other_holds.old) (entry opcode left_operand right_operand)) (recorded_answer result.answer) (shared (held_list result.sizes keys.new multiplicities.new holds.new) (counts other_multiplicities.new other_holds.new)) }
+    list: &mut LentListMut,
+    other: &mut OtherCounts,
+    entry: U32TableEntry,
+) -> Result<usize, Refusal>
+    ensures outcome { Leaves (hold_shared (held_in_mut list.old) (counts_in other.old) entry) (recorded_answer result) (shared (held_in_mut list.new) (counts_in other.new)) }
+    ensures same_arrays { SameArrays list.old list.new }
+    ensures same_counts { SameCounts other.old other.new }
 {
-    if !other_fits(sizes, other_multiplicities, other_holds) {
-        return Recording {
-            answer: Recorded::Refused(Refusal::Shape),
-            sizes,
-        };
+    if !other.fits(list.sizes.capacity) {
+        return Err(Refusal::Shape);
     }
-    let holding = list_record::hold_u32_table_entry_by_value(
-        sizes,
-        keys,
-        multiplicities,
-        holds,
-        opcode,
-        left_operand,
-        right_operand,
-    );
-    let to = holding.sizes.used;
-    clear_other(other_multiplicities, other_holds, sizes.used, to);
-    holding
+    let from = list.sizes.used;
+    let answer = list_record::hold_u32_table_entry(list, entry);
+    other.clear(from, list.sizes.used);
+    answer
 }
 
 // A replay by one of the two. One that stops has brought places into use as well: what is cleared goes by the places, and not by the answer.
 pub fn replay_shared(
-    sizes: Sizes,
-    keys: &mut [u64],
-    multiplicities: &mut [u64],
-    holds: &mut [u64],
-    other_multiplicities: &mut [u64],
-    other_holds: &mut [u64],
+    list: &mut LentListMut,
+    other: &mut OtherCounts,
     trace: &[u64],
-) -> Replaying
-    ensures { Leaves (replay_shared (held_list sizes keys.old multiplicities.old holds.old) (counts other_multiplicities.old other_holds.old) trace.now) (replayed_answer result.answer) (shared (held_list result.sizes keys.new multiplicities.new holds.new) (counts other_multiplicities.new other_holds.new)) }
+) -> Result<usize, Stopped>
+    ensures outcome { Leaves (replay_shared (held_in_mut list.old) (counts_in other.old) trace.now) (replayed_answer result) (shared (held_in_mut list.new) (counts_in other.new)) }
+    ensures same_arrays { SameArrays list.old list.new }
+    ensures same_counts { SameCounts other.old other.new }
 {
-    if !other_fits(sizes, other_multiplicities, other_holds) {
-        return Replaying {
-            answer: Replayed::Stopped {
-                reason: Refusal::Shape,
-                done: 0,
-            },
-            sizes,
-        };
+    if !other.fits(list.sizes.capacity) {
+        return Err(Stopped {
+            reason: Refusal::Shape,
+            done: 0,
+        });
     }
-    let replaying = list_replay::replay(sizes, keys, multiplicities, holds, trace);
-    let to = replaying.sizes.used;
-    clear_other(other_multiplicities, other_holds, sizes.used, to);
-    replaying
+    let from = list.sizes.used;
+    let answer = list_replay::replay(list, trace);
+    other.clear(from, list.sizes.used);
+    answer
 }
 
 // Stored bytes read by one of the two.
 pub fn read_shared(
     bytes: &[u8],
-    sizes: Sizes,
-    keys: &mut [u64],
-    multiplicities: &mut [u64],
-    holds: &mut [u64],
-    other_multiplicities: &mut [u64],
-    other_holds: &mut [u64],
-) -> Reading
-    ensures { Leaves (read_shared (held_list sizes keys.old multiplicities.old holds.old) (counts other_multiplicities.old other_holds.old) bytes.now) (read_answer result.answer) (shared (held_list result.sizes keys.new multiplicities.new holds.new) (counts other_multiplicities.new other_holds.new)) }
+    list: &mut LentListMut,
+    other: &mut OtherCounts,
+) -> Result<usize, Refusal>
+    ensures outcome { Leaves (read_shared (held_in_mut list.old) (counts_in other.old) bytes.now) (read_answer result) (shared (held_in_mut list.new) (counts_in other.new)) }
+    ensures same_arrays { SameArrays list.old list.new }
+    ensures same_counts { SameCounts other.old other.new }
 {
-    if !other_fits(sizes, other_multiplicities, other_holds) {
-        return Reading {
-            answer: Read::Refused(Refusal::Shape),
-            sizes,
-        };
+    if !other.fits(list.sizes.capacity) {
+        return Err(Refusal::Shape);
     }
-    let reading = list_stored::read_list(bytes, sizes, keys, multiplicities, holds);
-    let to = reading.sizes.used;
-    clear_other(other_multiplicities, other_holds, sizes.used, to);
-    reading
+    let from = list.sizes.used;
+    let answer = list_stored::read_list(bytes, list);
+    other.clear(from, list.sizes.used);
+    answer
 }

@@ -9,11 +9,9 @@ use borrow.Author.Tests.{eq-eqb, ne_eqb}
 use lib.ListN.{length}
 use lib.Seq.{sets}
 use Rattle.words.specs.Limits.{max_places}
-use Rattle.words.specs.Refusals.{first_reason}
+use Rattle.words.specs.Refusals.{first_reason, Judgement, Fine, Declined}
 use Rattle.words.specs.declared.Refusal.{Refusal}
 use Rattle.words.specs.declared.Refusal.TheVariants.{Repeat, Tally}
-use Rattle.words.specs.declared.Judgement.{Judgement}
-use Rattle.words.specs.declared.Judgement.TheVariants.{Fine, Declined}
 use Rattle.words.specs.Places.{places}
 use Rattle.words.proofs.Judgements.{or_first, or_next, decline_true, decline_false, first_fine, first_cong}
 use Rattle.words.proofs.Places.{map_cong}

@@ -12,8 +12,7 @@ use lib.Dec.{eqb, ltb}
 use lib.ListN.{length, replicate}
 use lib.Seq.{sets}
 use Rattle.words.specs.Answers.{Answer}
-use Rattle.words.specs.declared.Judgement.{Judgement}
-use Rattle.words.specs.declared.Judgement.TheVariants.{Fine, Declined}
+use Rattle.words.specs.Refusals.{Judgement, Fine, Declined}
 use Rattle.words.specs.declared.Refusal.{Refusal}
 use Rattle.words.specs.declared.Refusal.TheVariants.{CountFull, ListFull, Short, Torn, Repeat, Tally}
 use Rattle.words.specs.Limits.{max_places, multiplicity_limit}
@@ -22,20 +21,25 @@ use Rattle.words.specs.Places.{places}
 use Rattle.words.proofs.Judgements.{or_first, or_next, or_both, decline_fine, decline_true, decline_false, decline_not_fine, first_fine, first_none}
 use Rattle.isa.specs.Entries.{entry_words, admit_stored}
 use Rattle.list.specs.Lists.{U32List, capacity, used, entry_at, count_full, judge_entry_by}
-use Rattle.list.specs.Heights.{sum_heights, list_height}
-use Rattle.list.specs.declared.Judged.TheVariants.{Height}
+use Rattle.list.specs.Heights.{judged_as, sum_heights, list_height}
 use Rattle.list.specs.Holds.{HeldList, held_list, held_shape, section_list, judge_held, judged_held}
+use Rattle.list.proofs.JudgedLists.{judged_as_height, judged_as_refused}
 use Rattle.list.proofs.HeldLists.{HeldShaped, held_shaped, held_shape_fine, held_told, held_height}
-use Rattle.list_stored.specs.declared.Read.TheVariants.{Entries, Refused}
-use Rattle.list_stored.specs.declared.Written.TheVariants.{Length, Refused as WriteRefused}
+use Rattle.std.specs.Prelude.{Ok, Err}
 use Rattle.list_bytes.specs.Packed.{head_width, stored_places, length_with, stored_length, old_length, width_of, bytes_with, stored_bytes}
 use Rattle.list_bytes.specs.Packed.{stored_n, stored_height, stored_entry, stored_multiplicity, stored_entries}
 use Rattle.list_repeats.specs.Repeats.{repeats}
-use Rattle.list_stored.specs.Stored.{torn, judge_stored, tally, content_reason, read_reason, read_all, read_answer}
+use Rattle.list_stored.specs.Stored.{torn, judge_stored, tally, content_reason, read_reason, read_judged, read_all, read_answer}
 use Rattle.list_stored.specs.Stored.{storing_reason, write_reason, stored_as, write_all, written_answer}
 use Rattle.list_bytes.proofs.StoredPlaces.{length_stored_places, stored_entries_lem}
 use Rattle.list_bytes.proofs.Format.{width_old, width_other}
 use Rattle.list_repeats.proofs.Repeats.{or-true}
+
+pub judged_declined : {j : Judgement} {k : Refusal} (n : ℕ) → j ≡ Declined k → Err k ≡ judged_as j n
+judged_declined n e = rw e
+
+pub judged_fine : {j : Judgement} {m : ℕ} (n : ℕ) → j ≡ Fine → m ≡ n → Ok m ≡ judged_as j n
+judged_fine n e q = rw (e, q)
 
 -- ---- bytes that are whole
 
@@ -194,7 +198,7 @@ module _ (h : HeldList) (s : List ℕ) where
       read_content k n = or_next _ sh ∙ or_next _ e ∙ or_next _ (decline_false ListFull (has_room h s k n))
 
   -- what is due then
-  pub read_refused : {k : Refusal} → read_reason h s ≡ Declined k → Leaves (read_all h s) (read_answer (Refused k)) h
+  pub read_refused : {k : Refusal} → read_reason h s ≡ Declined k → Leaves (read_all h s) (read_answer (Err k)) h
   unfolding read_all
   read_refused e = rw e (record { answer = refl; left = refl })
 
@@ -202,7 +206,7 @@ module _ (h : HeldList) (s : List ℕ) where
       → ks ≡ sets h.list.keys 0 (flat_map (λ i. entry_words (stored_entry s i)) (places n))
       → ms ≡ sets h.list.multiplicities 0 (map (stored_multiplicity s) (places n))
       → hs ≡ sets h.holds 0 (replicate (n - 0) 0)
-      → Leaves (read_all h s) (read_answer (Entries n)) (held_list (record { capacity = capacity h.list; used = n }) ks ms hs)
+      → Leaves (read_all h s) (read_answer (Ok n)) (held_list (record { capacity = capacity h.list; used = n }) ks ms hs)
   unfolding read_all
   read_done n ks ms hs e en ek em eh = rw (e, ek, em, eh, sub-zero, en) (record { answer = refl; left = refl })
 
@@ -246,19 +250,19 @@ module _ (l : U32List) (out : List ℕ) where
 
   -- what is due then
   module _ (reason : Judgement) where
-    pub stored_refused : {k : Refusal} → reason ≡ Declined k → Leaves (stored_as reason l out) (written_answer (WriteRefused k)) out
+    pub stored_refused : {k : Refusal} → reason ≡ Declined k → Leaves (stored_as reason l out) (written_answer (Err k)) out
     stored_refused e = rw e (record { answer = refl; left = refl })
 
     pub stored_done : (n m : ℕ) (after : List ℕ) → reason ≡ Fine → n ≡ stored_length (used l) → m ≡ list_height l
-        → after ≡ sets out 0 (bytes_with m l) → Leaves (stored_as reason l out) (written_answer (Length n)) after
+        → after ≡ sets out 0 (bytes_with m l) → Leaves (stored_as reason l out) (written_answer (Ok n)) after
     unfolding stored_bytes
     stored_done n m after e en em eb = rw (e, length_stored_places l, en, eb, em) (record { answer = refl; left = refl })
 
 -- of the list with its holds: where `judge_held` answers a height, its places are within the arrays, and those are few
-pub height_shaped : (h : HeldList) (n : ℕ) → Height n ≡ judged_held h → HeldShaped h
+pub height_shaped : (h : HeldList) (n : ℕ) → Ok n ≡ judged_held h → HeldShaped h
 height_shaped h n e = held_shaped h (held_told h (held_height h n e).0).0
 
-pub height_few : (h : HeldList) (n : ℕ) → Height n ≡ judged_held h → used h.list ≤ max_places
+pub height_few : (h : HeldList) (n : ℕ) → Ok n ≡ judged_held h → used h.list ≤ max_places
 height_few h n e = let s = (height_shaped h n e).list in omega (arith, s.small, s.within)
 
 module _ (h : HeldList) (out : List ℕ) where
@@ -266,7 +270,7 @@ module _ (h : HeldList) (out : List ℕ) where
   unfolding write_reason
   write_judged e = or_first _ e
 
-  pub write_refused : {k : Refusal} → judge_held h ≡ Declined k → Leaves (write_all h out) (written_answer (WriteRefused k)) out
+  pub write_refused : {k : Refusal} → judge_held h ≡ Declined k → Leaves (write_all h out) (written_answer (Err k)) out
   unfolding write_all
   write_refused e = stored_refused (section_list h) out (write_reason h out) (write_judged e)
 
@@ -284,3 +288,13 @@ module _ (h : HeldList) (out : List ℕ) where
         → Leaves (stored_as (storing_reason l out) l out) given after → Leaves (write_all h out) given after
     unfolding write_all
     write_stores l e w = rw (write_reason_lem, ← e) w
+
+-- ---- what the judge of a reading tells
+
+-- of a list that was looked at, there is nothing against reading, and how many entries it is
+pub reading_told : (h : HeldList) (s : List ℕ) {seen : HeldList} {n : ℕ} → seen ≡ h → Ok n ≡ read_judged seen s → (read_reason h s ≡ Fine) × (n ≡ stored_n s)
+reading_told h s {seen} {n} e q = judged_as_height (read_reason h s) (stored_n s) n (q ∙ ap (λ (g : HeldList). read_judged g s) e)
+
+-- or why not
+pub reading_declined : (h : HeldList) (s : List ℕ) {seen : HeldList} {k : Refusal} → seen ≡ h → Err k ≡ read_judged seen s → read_reason h s ≡ Declined k
+reading_declined h s {seen} {k} e q = judged_as_refused (read_reason h s) (stored_n s) k (q ∙ ap (λ (g : HeldList). read_judged g s) e)

@@ -1,25 +1,21 @@
 -- Stored lists (document 01, "Recording and stored lists" and "Reasons to decline"): reading and writing. Holds are "not stored in files" (request 6):
 -- reading clears them, and a list with an open one is not written.
-use Rattle.std.specs.Prelude.{ℕ, true, not, ◌||◌, eqb, ltb, length, replicate}
+use Rattle.std.specs.Prelude.{ℕ, true, not, ◌||◌, eqb, ltb, length, replicate, Result, Ok, Err}
 use mathlib.Core.List.{List, [], ◌∷◌, map, flat_map}
 use Rattle.std.proofs.lemmas.List.Edits.{sets}
 use Rattle.words.specs.Limits.{max_places}
 use Rattle.words.specs.Answers.{Answer, done, declined}
 use Rattle.words.specs.Outcomes.{Outcome, outcome}
-use Rattle.words.specs.Refusals.{decline_if, or_else, first_reason}
-use Rattle.words.specs.declared.Judgement.{Judgement}
+use Rattle.words.specs.Refusals.{decline_if, or_else, first_reason, Judgement}
+use Rattle.words.specs.declared.Refusal.{Refusal}
 use Rattle.words.specs.declared.Refusal.TheVariants.{ListFull, Short, Torn, Repeat, Tally}
 use Rattle.words.specs.Places.{places}
 use Rattle.isa.specs.Entries.{entry_words}
 use Rattle.list.specs.Lists.{U32List, u32_list, capacity, used, judge_counted}
-use Rattle.list.specs.Heights.{entries_at, sum_heights}
+use Rattle.list.specs.Heights.{Judged, judged_as, entries_at, sum_heights}
 use Rattle.list.specs.Holds.{HeldList, held_shape, section_list, judge_held}
 use Rattle.list_bytes.specs.Packed.{stored_places, stored_length, old_length, stored_bytes, stored_n, stored_height, stored_entry, stored_multiplicity, stored_entries}
 use Rattle.list_repeats.specs.Repeats.{repeats}
-use Rattle.list_stored.specs.declared.Read.{Read}
-use Rattle.list_stored.specs.declared.Read.TheVariants.{Entries, Refused}
-use Rattle.list_stored.specs.declared.Written.{Written}
-use Rattle.list_stored.specs.declared.Written.TheVariants.{Length, Refused as WriteRefused}
 
 -- 10: "stored length wrong or N above 2,048". Two lengths are right: 8 + 25·N, and "Lists of the old length are still read". Bytes too few to
 -- hold N have a wrong length too: none is shorter than 8
@@ -54,6 +50,10 @@ read_reason h s =
     (or_else (decline_if (ltb (capacity h.list) (stored_n s) || ltb 0 (used h.list)) ListFull)
     (content_reason s)))
 
+-- the number of entries, where there is no reason against reading them
+abbrev pub read_judged : HeldList → List ℕ → Judged
+read_judged h s = judged_as (read_reason h s) (stored_n s)
+
 -- "Reading .. sets used to N and answers N .. Destination places past N .. are untouched." It replaces nothing any more: no place was in use
 abbrev pub replaced_list : U32List → List ℕ → U32List
 replaced_list l s =
@@ -69,9 +69,9 @@ unfoldable pub read_all : HeldList → List ℕ → Outcome HeldList
 read_all h s = outcome (read_reason h s) (stored_n s ∷ []) h (replaced h s)
 
 -- what the answer of a reading means
-abbrev pub read_answer : Read → Answer
-read_answer (Entries n) = done (n ∷ [])
-read_answer (Refused reason) = declined reason
+abbrev pub read_answer : Result ℕ Refusal → Answer
+read_answer (Ok n) = done (n ∷ [])
+read_answer (Err reason) = declined reason
 
 -- ".. 11, 7" of the list that is written; 7 is "output bytes too few"
 unfoldable pub storing_reason : U32List → List ℕ → Judgement
@@ -92,6 +92,6 @@ unfoldable pub write_all : HeldList → List ℕ → Outcome (List ℕ)
 write_all h out = stored_as (write_reason h out) (section_list h) out
 
 -- what the answer of a writing means
-abbrev pub written_answer : Written → Answer
-written_answer (Length n) = done (n ∷ [])
-written_answer (WriteRefused reason) = declined reason
+abbrev pub written_answer : Result ℕ Refusal → Answer
+written_answer (Ok n) = done (n ∷ [])
+written_answer (Err reason) = declined reason

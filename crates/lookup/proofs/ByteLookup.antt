@@ -1,8 +1,8 @@
 -- The stored outputs of the byte lookup: the numbers follow the rule (`stored_is`), and no two bytes share one (`stored_distinct`). One test each,
 -- computed over the whole table: entry i is (i + 1)^3 − 1 modulo 257; and the cube root of one more than it, which is its power 171, is i + 1
 -- (3 · 171 is 1 modulo 256). Assumes nothing.
-use Prim.Native.Nat.{ℕ, ◌+◌, ◌*◌, ◌%◌, ◌^◌, ◌<◌}
-use mathlib.Core.Path.{◌≡◌, refl, sym, ap, ap₂, ◌∙◌}
+use Prim.Native.Nat.{ℕ, ◌+◌, ◌*◌, ◌/◌, ◌%◌, ◌^◌, ◌<◌}
+use mathlib.Core.Path.{◌≡◌, refl, sym, ap, ◌∙◌}
 use mathlib.Core.Bool.{Bool, true}
 use mathlib.Core.List.{List, [], ◌∷◌}
 use native.Mathlib.Omega.{arith}
@@ -10,8 +10,8 @@ use lib.Dec.{eqb}
 use lib.ListN.{length, get_or}
 use borrow.Author.Tests.{eqb-true}
 use Rattle.words.specs.Limits.{byte_rows}
-use Rattle.field.proofs.Tables.{every, every_at, table_at, is_table}
-use Rattle.lookup.specs.ByteLookup.{byte_lookup, byte_output, NoneShared, high_byte, low_byte, cascade_output}
+use Rattle.field.proofs.Tables.{every, every_at, is_table}
+use Rattle.lookup.specs.ByteLookup.{byte_lookup, byte_output, NoneShared, cascade_output}
 
 -- the numbers
 unfoldable pub stored : List ℕ
@@ -43,7 +43,7 @@ all_follow : every follows 0 stored ≡ true
 unfolding follows byte_output stored
 all_follow = refl
 
-stored_output : (i : ℕ) → i < byte_rows → get_or stored i 0 ≡ byte_output i
+pub stored_output : (i : ℕ) → i < byte_rows → get_or stored i 0 ≡ byte_output i
 unfolding follows
 stored_output i h = eqb-true _ _ (every_at follows stored all_follow i (rw stored_length_lem h))
 
@@ -72,15 +72,13 @@ root_of_lem i h = eqb-true _ _ (every_at comes_from stored all_come i (rw stored
 pub stored_distinct : NoneShared stored
 stored_distinct i j h k e = let q : i + 1 ≡ j + 1 = sym (root_of_lem i h) ∙ ap root_of e ∙ root_of_lem j k in omega arith
 
--- ---- a table that is lent
+-- ---- the cascade
 
-pub looked_up_lem : (outputs : List ℕ) → outputs ≡ byte_lookup → (i : ℕ) → i < byte_rows → get_or outputs i 0 ≡ byte_output i
-unfolding byte_lookup
-looked_up_lem outputs e i h = ap (λ (l : List ℕ). get_or l i 0) e ∙ table_at byte_output byte_rows i h
-
--- looking up both bytes of a 16-bit value in it makes the cascade's output
-pub both_looked_up : (outputs : List ℕ) → outputs ≡ byte_lookup → (v : ℕ) → v < 65536 →
-    256 * get_or outputs (high_byte v) 0 + get_or outputs (low_byte v) 0 ≡ cascade_output v
+-- the outputs of both bytes of a 16-bit value make the cascade's output
+pub both_looked_up : (v : ℕ) {high low : ℕ} → v < 65536 → high ≡ byte_output (v / 256 % 256) → low ≡ byte_output (v % 256)
+    → high * 256 + low ≡ cascade_output v
 unfolding cascade_output
-both_looked_up outputs e v h =
-    ap₂ (λ (high low : ℕ). 256 * high + low) (looked_up_lem outputs e (high_byte v) (omega arith)) (looked_up_lem outputs e (low_byte v) (omega arith))
+both_looked_up v h e f =
+    let within : v / 256 % 256 ≡ v / 256 = omega arith in
+    let high = e ∙ ap byte_output within in
+    omega arith

@@ -1,18 +1,20 @@
 -- What a search for a value finds. find_hit, find_miss and find_none are its steps, for a loop that goes from place i to n; find_run passes a run
 -- of places that hold other keys. find_within: it ends at the last place at the latest. Assumes nothing.
 use Prim.Native.Nat.{ℕ, zero, suc, ◌+◌, ◌-◌, ◌≤◌, ◌<◌}
-use mathlib.Core.Path.{◌≡◌, refl, sym, ap, ◌∙◌, subst}
+use mathlib.Core.Path.{◌≡◌, refl, ap, ◌∙◌, subst}
 use mathlib.Core.Bool.{Bool, true, false}
-use mathlib.Core.Logic.{◌≢◌, ⊎_elim}
-use mathlib.Core.List.{List}
-use native.Mathlib.Nat.{eq-or-lt_of_le}
+use mathlib.Core.Logic.{◌≢◌}
+use mathlib.Core.List.{List, [], ◌∷◌}
 use native.Mathlib.Omega.{arith}
 use native.Mathlib.Numerals.{add-one}
 use lib.Dec.{eqb}
-use lib.ListN.{get_or}
-use borrow.Author.Tests.{eq-eqb, ne_eqb}
+use lib.ListN.{length, get_or, take, drop}
+use borrow.Author.Tests.{eq-eqb, ne_eqb, eqb-false}
+use Rattle.std.proofs.lemmas.Bool.{or_parts}
+use Rattle.std.proofs.lemmas.List.{get_or-take, get_or-drop, length-take-le}
+use Rattle.std.proofs.Common.{length-drop}
 use Rattle.lookup.specs.Cascades.{find_from}
-use Rattle.lookup.specs.Runs.{NoneHolds}
+use Rattle.lookup.specs.Recordings.{occurs}
 
 module _ (keys : List ℕ) (v : ℕ) where
   pub find_hit : (i n : ℕ) → i < n → get_or keys i 0 ≡ v → find_from keys v i (n - i) ≡ i
@@ -35,14 +37,6 @@ module _ (keys : List ℕ) (v : ℕ) where
       ∙ find_miss (i + k) n (omega arith) (f k (omega arith))
       ∙ ap (λ (j : ℕ). find_from keys v j (n - j)) (omega arith)
 
-  -- a run of places
-  pub find_run : (i to next n : ℕ) → i ≤ to → to ≡ next → to ≤ n → NoneHolds keys i to v
-      → find_from keys v i (n - i) ≡ find_from keys v next (n - next)
-  unfolding NoneHolds
-  find_run i to next n l q h f =
-      find_misses (to - i) i n (omega arith) (λ j b. f (i + j) (omega arith) (omega arith))
-      ∙ ap (λ (j : ℕ). find_from keys v j (n - j)) (omega arith)
-
   find_from_within : (i n : ℕ) → find_from keys v i n ≤ i + n
   unfolding find_from
   find_from_within i zero = omega arith
@@ -54,20 +48,20 @@ module _ (keys : List ℕ) (v : ℕ) where
   pub find_within : (n : ℕ) → find_from keys v 0 n ≤ n
   find_within n = omega (arith, find_from_within 0 n)
 
--- ---- one place more that does not hold the value
+-- ---- a run of places
 
-pub none_yet : (keys : List ℕ) (from v : ℕ) → NoneHolds keys from from v
-unfolding NoneHolds
-none_yet keys from v j a b = absurd (omega arith)
+occurs_not : (v : ℕ) (ws : List ℕ) → occurs v ws ≡ false → (j : ℕ) → j < length ws → get_or ws j 0 ≢ v
+unfolding occurs
+occurs_not v [] e j h = absurd (omega arith)
+occurs_not v (w ∷ ws) e zero h = eqb-false w v (or_parts (eqb w v) (occurs v ws) e).0
+occurs_not v (w ∷ ws) e (suc j) h = occurs_not v ws (or_parts (eqb w v) (occurs v ws) e).1 j (omega arith)
 
-pub none_more : (keys : List ℕ) (from to v : ℕ) → NoneHolds keys from to v → get_or keys to 0 ≢ v → NoneHolds keys from (to + 1) v
-unfolding NoneHolds
-none_more keys from to v f g j a b =
-    ⊎_elim
-    (λ (q : j ≡ to). subst (λ (k : ℕ). get_or keys k 0 ≢ v) (sym q) g)
-    (λ (q : j < to). f j a q)
-    (eq-or-lt_of_le (omega arith))
-
-pub none_fewer : (keys : List ℕ) (from to less v : ℕ) → less ≤ to → NoneHolds keys from to v → NoneHolds keys from less v
-unfolding NoneHolds
-none_fewer keys from to less v h f j a b = f j a (omega arith)
+-- a run that does not hold the value is passed
+pub find_run : (keys : List ℕ) (v i from to next n : ℕ) → i ≡ from → to ≡ next → from ≤ to → to ≤ n → n ≤ length keys
+    → occurs v (take (to - from) (drop from keys)) ≡ false → find_from keys v i (n - i) ≡ find_from keys v next (n - next)
+find_run keys v i from to next n p q l h b e =
+    ap (λ (j : ℕ). find_from keys v j (n - j)) p
+    ∙ find_misses keys v (to - from) from n (omega arith)
+    (λ j k. subst (λ (w : ℕ). w ≢ v) (get_or-take (to - from) (drop from keys) j 0 k ∙ get_or-drop from keys j 0)
+    (occurs_not v _ e j (let d = length-drop from keys in let t = length-take-le (to - from) (drop from keys) (omega arith) in omega arith)))
+    ∙ ap (λ (j : ℕ). find_from keys v j (n - j)) (omega arith)

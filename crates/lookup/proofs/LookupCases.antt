@@ -3,7 +3,7 @@
 -- (looked_up_at). The test of a new value's bytes, by cases: they are equal and gain two, or differ and gain one each. Assumes nothing.
 use Prim.Native.Nat.{ℕ, ◌+◌, ◌≤◌, ◌<◌}
 use mathlib.Core.Path.{◌≡◌, refl, sym, ap, ◌∙◌}
-use mathlib.Core.Bool.{Bool, true, false, cond, not, ◌||◌, and-eq-true_iff, true≢false}
+use mathlib.Core.Bool.{Bool, true, false, cond, not, ◌||◌, and-eq-true_iff}
 use mathlib.Core.Logic.{◌≢◌}
 use mathlib.Core.List.{List, []}
 use native.Mathlib.Omega.{arith}
@@ -11,17 +11,17 @@ use lib.Dec.{eqb, ltb}
 use lib.ListN.{length, get_or, length-set}
 use lib.Seq.{get_or-set_same, get_or-set_other}
 use borrow.Author.Tests.{lt-ltb, le-ltb, ltb-true, ltb-false, eqb-true, eqb-false, not-true}
+use Rattle.std.specs.Prelude.{Ok, Err}
+use Rattle.std.proofs.lemmas.Bool.{or_parts}
 use Rattle.words.specs.Limits.{max_cascade_places, multiplicity_limit, byte_rows}
 use Rattle.words.specs.Answers.{done}
 use Rattle.words.specs.Outcomes.{Outcome, outcome}
-use Rattle.words.specs.Refusals.{decline_if}
-use Rattle.words.specs.declared.Judgement.{Judgement}
-use Rattle.words.specs.declared.Judgement.TheVariants.{Fine, Declined}
+use Rattle.words.specs.Refusals.{decline_if, Judgement, Fine, Declined}
 use Rattle.words.specs.declared.Refusal.TheVariants.{Shape, CountFull, CascadeFull}
 use Rattle.words.proofs.Judgements.{decline_fine, decline_not_fine, or_both}
 use Rattle.list.specs.Lists.{count_full}
 use Rattle.list.proofs.JudgedLists.{count_within}
-use Rattle.lookup.specs.declared.LimbPlace.TheVariants.{Known, New, Refused}
+use Rattle.lookup.specs.declared.LimbPlace.TheVariants.{Known, New}
 use Rattle.lookup.specs.ByteLookup.{high_byte, low_byte}
 use Rattle.lookup.specs.Cascades.{Cascade, Lookups, capacity, used, find_value, known, cascade_shape, bytes_shape, lookup_shape}
 use Rattle.lookup.specs.Cascades.{raised_byte, raised_bytes, bytes_full, value_reason, lookup_reason, raised, appended, looked_up_into, look_up_all}
@@ -86,10 +86,6 @@ module _ (bs : List ℕ) (v : ℕ) (all : length bs ≡ byte_rows) (small : v < 
   pub bytes_within : bytes_full bs v ≡ false
       → (get_or bs (high_byte v) 0 + 1 ≤ multiplicity_limit) × (get_or (raised_byte bs (high_byte v)) (low_byte v) 0 + 1 ≤ multiplicity_limit)
   bytes_within f = go (eqb (high_byte v) (low_byte v)) refl where
-    either_false : (a b : Bool) → (a || b) ≡ false → (a ≡ false) × (b ≡ false)
-    either_false true b h = absurd (true≢false h)
-    either_false false b h = (refl, h)
-
     go : (t : Bool) → eqb (high_byte v) (low_byte v) ≡ t
         → (get_or bs (high_byte v) 0 + 1 ≤ multiplicity_limit) × (get_or (raised_byte bs (high_byte v)) (low_byte v) 0 + 1 ≤ multiplicity_limit)
     go true q =
@@ -100,7 +96,7 @@ module _ (bs : List ℕ) (v : ℕ) (all : length bs ≡ byte_rows) (small : v < 
         (omega arith, omega arith)
     go false q =
         let d : high_byte v ≢ low_byte v = eqb-false _ _ q in
-        let both = either_false _ _ (sym (full_differ d) ∙ f) in
+        let both = or_parts _ _ (sym (full_differ d) ∙ f) in
         let high : get_or bs (high_byte v) 0 + 1 ≤ multiplicity_limit = count_within _ both.0 in
         let low : get_or bs (low_byte v) 0 + 1 ≤ multiplicity_limit = count_within _ both.1 in
         let same : get_or (raised_byte bs (high_byte v)) (low_byte v) 0 ≡ get_or bs (low_byte v) 0 =
@@ -110,29 +106,29 @@ module _ (bs : List ℕ) (v : ℕ) (all : length bs ≡ byte_rows) (small : v < 
 -- ---- where a value goes
 
 module _ (t : Lookups) (v : ℕ) where
-  pub shape_declined : lookup_shape t ≡ false → place_of t v ≡ Refused Shape
+  pub shape_declined : lookup_shape t ≡ false → place_of t v ≡ Err Shape
   unfolding place_of lookup_reason
   shape_declined s = rw s
 
   module _ (right : lookup_shape t ≡ true) (at : ℕ) (found : at ≡ find_value t.values v) where
-    pub place_full : at < used t.values → count_full (get_or t.values.multiplicities at 0 + 1) ≡ true → place_of t v ≡ Refused CountFull
+    pub place_full : at < used t.values → count_full (get_or t.values.multiplicities at 0 + 1) ≡ true → place_of t v ≡ Err CountFull
     unfolding place_of lookup_reason value_reason
     place_full h m = let k = rw found at h in let n = rw found at m in rw (right, lt-ltb _ _ k, n)
 
-    pub place_known : at < used t.values → count_full (get_or t.values.multiplicities at 0 + 1) ≡ false → place_of t v ≡ Known at
+    pub place_known : at < used t.values → count_full (get_or t.values.multiplicities at 0 + 1) ≡ false → place_of t v ≡ Ok (Known at)
     unfolding place_of lookup_reason value_reason
     place_known h m = let k = rw found at h in let n = rw found at m in rw (found, right, lt-ltb _ _ k, n, lt-ltb _ _ k)
 
     module _ (past : used t.values ≤ at) where
-      pub bytes_declined : bytes_full t.byte_multiplicities v ≡ true → place_of t v ≡ Refused CountFull
+      pub bytes_declined : bytes_full t.byte_multiplicities v ≡ true → place_of t v ≡ Err CountFull
       unfolding place_of lookup_reason value_reason
       bytes_declined b = let k = rw found at past in rw (right, le-ltb _ _ k, b)
 
-      pub place_new : bytes_full t.byte_multiplicities v ≡ false → used t.values < capacity t.values → place_of t v ≡ New
+      pub place_new : bytes_full t.byte_multiplicities v ≡ false → used t.values < capacity t.values → place_of t v ≡ Ok New
       unfolding place_of lookup_reason value_reason
       place_new b m = let k = rw found at past in rw (right, le-ltb _ _ k, b, lt-ltb _ _ m, le-ltb _ _ k)
 
-      pub no_place : bytes_full t.byte_multiplicities v ≡ false → capacity t.values ≤ used t.values → place_of t v ≡ Refused CascadeFull
+      pub no_place : bytes_full t.byte_multiplicities v ≡ false → capacity t.values ≤ used t.values → place_of t v ≡ Err CascadeFull
       unfolding place_of lookup_reason value_reason
       no_place b m = let k = rw found at past in rw (right, le-ltb _ _ k, b, le-ltb _ _ m)
 
@@ -143,7 +139,7 @@ unfolding look_up_all place_of
 looked_up_at t v = go (lookup_reason t v) where
   either : (b : Bool) → ◌≡◌ {A = Outcome Lookups}
       (record { answer = done []; left = cond b (raised t (find_value t.values v)) (appended t v) })
-      (stored_at t v (cond b (Known (find_value t.values v)) New))
+      (stored_at t v (Ok (cond b (Known (find_value t.values v)) New)))
   either true = refl
   either false = refl
 
@@ -156,7 +152,7 @@ pub place_fits : (t : Lookups) (v : ℕ) → Fits t v (place_of t v)
 unfolding place_of lookup_reason value_reason bytes_shape
 place_fits t v = go (lookup_reason t v) refl where
   room : Shaped t.values → length t.byte_multiplicities ≡ byte_rows → (b : Bool) → known t.values v ≡ b → value_reason t v ≡ Fine
-      → Fits t v (cond b (Known (find_value t.values v)) New)
+      → Fits t v (Ok (cond b (Known (find_value t.values v)) New))
   room s bytes true k f =
       let h : find_value t.values v < used t.values = ltb-true _ _ k in
       (omega (arith, s.within, s.multiplicities), decline_fine _ CountFull (rw k at f))

@@ -14,11 +14,9 @@ use borrow.Author.Tests.{eqb-true, ne_eqb, ltb-true, lt-ltb, le-ltb}
 use Rattle.words.specs.Answers.{done, declined}
 use Rattle.words.specs.Limits.{byte_rows}
 use Rattle.words.specs.Outcomes.{Outcome}
-use Rattle.words.specs.Refusals.{refusal_number, decline_if}
+use Rattle.words.specs.Refusals.{refusal_number, decline_if, Judgement, Fine, Declined}
 use Rattle.words.specs.declared.Refusal.{Refusal}
 use Rattle.words.specs.declared.Refusal.TheVariants.{Shape, CountFull, CascadeFull}
-use Rattle.words.specs.declared.Judgement.{Judgement}
-use Rattle.words.specs.declared.Judgement.TheVariants.{Fine, Declined}
 use Rattle.words.proofs.Judgements.{or_both, decline_not_fine}
 use Rattle.words.proofs.Answers.{number_positive}
 use Rattle.lookup.specs.Cascades.{Cascade, Lookups, capacity, used, find_from, find_value, known, lookup_shape, cascade_shape, bytes_shape}

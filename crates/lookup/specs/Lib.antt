@@ -2,4 +2,4 @@ pub mod ByteLookup
 pub mod Cascades
 pub mod Placing
 pub mod Recordings
-pub mod Runs
+pub mod Lent

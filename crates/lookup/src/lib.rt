@@ -2,20 +2,24 @@
 // place, and its multiplicities, one a place; beside it stand the multiplicities of the 256 bytes.
 #![tactic(auto)]
 
-ghost use Rattle.std.specs.Prelude.{◌≡◌, true, false, ◌+◌, ◌*◌, ◌≤◌, ◌<◌, length, get_or};
+ghost use Rattle.std.specs.Prelude.{◌≡◌, not, ◌+◌, ◌≤◌, ◌<◌, [], length, MatchOption, Ok};
 ghost use Rattle.words.specs.Limits.{byte_rows};
+ghost use Rattle.words.specs.Answers.{done};
 ghost use Rattle.words.specs.Outcomes.{Leaves, completed_answer};
+ghost use Rattle.words.specs.Refusals.{decline_if};
+ghost use Rattle.words.specs.declared.Refusal.TheVariants.{Shape};
 ghost use Rattle.list.specs.Lists.{count_full};
 ghost use Rattle.lookup.specs.ByteLookup.{byte_lookup, byte_output, NoneShared, high_byte, low_byte, cascade_output};
-ghost use Rattle.lookup.specs.Cascades.{cascade, lookups, cascade_shape, bytes_full, find_from, look_up_all};
+ghost use Rattle.lookup.specs.Cascades.{cascade_shape, bytes_full, find_from, look_up_all};
+ghost use Rattle.lookup.specs.Lent.{cascade_in, lookups_in, SameArrays};
 ghost use Rattle.lookup.specs.Placing.{place_of, stored_at, Fits};
-ghost use Rattle.lookup.specs.Runs.{NoneHolds};
+ghost use Rattle.lookup.specs.Recordings.{occurs};
 
 pub use list::Sizes;
-use words::{BYTE_ROWS, Completed, MAX_CASCADE_PLACES, MULTIPLICITY_LIMIT, Refusal};
+use words::{BYTE_ROWS, MAX_CASCADE_PLACES, Refusal};
 
 // The outputs of the byte lookup.
-const BYTE_LOOKUP: [u8; 256] = [
+static BYTE_LOOKUP: [u8; 256] = [
     0, 7, 26, 63, 124, 215, 85, 254, 214, 228, 45, 185, 140, 173, 33, 240, 29, 177, 176, 32, 8,
     110, 87, 202, 204, 99, 150, 106, 230, 14, 235, 128, 213, 239, 212, 138, 23, 130, 208, 6, 44,
     71, 93, 116, 146, 189, 251, 81, 199, 97, 38, 28, 73, 179, 95, 84, 152, 48, 35, 119, 49, 88,
@@ -31,127 +35,107 @@ const BYTE_LOOKUP: [u8; 256] = [
     1, 170, 40, 131, 192, 229, 248, 255,
 ];
 
-// The outputs of the byte lookup, to be copied to a local once and lent: a constant array is made anew at each use.
-pub fn byte_outputs() -> [u8; 256]
-    ensures rule { result ≡ byte_lookup }
-    ensures distinct { NoneShared result }
-{
-    BYTE_LOOKUP
-}
-
-// The output of a byte.
+// The output of a byte. No two bytes share one.
 pub fn byte_lookup(byte: u8) -> u8
-    ensures { result ≡ byte_output byte }
+    ensures rule { result ≡ byte_output byte }
+    ensures distinct { NoneShared byte_lookup }
 {
-    let outputs = byte_outputs();
-    outputs[byte as usize]
+    BYTE_LOOKUP[usize::from(byte)]
 }
 
-// A byte as a 16-bit value.
-fn widened(byte: u8) -> u16
-    ensures exact { result ≡ byte }
-    ensures bound { result < 256 }
-{
-    byte as u16
-}
-
-// Each of the two bytes of a 16-bit value is looked up in the lent table. Where this has the bytes' outputs, the answer is the cascade's output.
-pub fn cascade_lookup_in(outputs: &[u8; 256], value: u16) -> u16
-    ensures { result ≡ 256 * get_or outputs.now (high_byte value) 0 + get_or outputs.now (low_byte value) 0 }
-{
-    let high = widened(outputs[(value / 256) as usize]);
-    let low = widened(outputs[(value % 256) as usize]);
-    256 * high + low
-}
-
-// The output of a 16-bit value.
+// The output of a 16-bit value: that of its high byte, then that of its low one.
 pub fn cascade_lookup(value: u16) -> u16
     ensures { result ≡ cascade_output value }
 {
-    let outputs = byte_outputs();
-    cascade_lookup_in(&outputs, value)
+    let [high, low] = value.to_be_bytes();
+    u16::from_be_bytes([byte_lookup(high), byte_lookup(low)])
 }
 
-// Where a value goes: the place of the first equal key, or nowhere yet; or why it is declined.
+// A cascade as it is lent: its sizes; its keys, one 16-bit word a place; its multiplicities, one a place.
+#[derive(Clone, Copy)]
+pub struct LentCascade<'a> {
+    pub sizes: Sizes,
+    pub keys: &'a [u16],
+    pub multiplicities: &'a [u64],
+}
+
+// A cascade lent to be changed, and beside it the multiplicities of the 256 bytes.
+#[derive(Drop)]
+pub struct LentLookupsMut<'a> {
+    pub sizes: Sizes,
+    pub keys: &'a mut [u16],
+    pub multiplicities: &'a mut [u64],
+    pub byte_multiplicities: &'a mut [u64],
+}
+
+// Where a value goes: the place of the first equal key, or nowhere yet.
 #[derive(Clone, Copy)]
 pub enum LimbPlace {
     Known(usize),
     New,
-    Refused(Refusal),
 }
 
-// The answer of a recording, and the cascade's sizes after it.
-#[derive(Clone, Copy)]
-pub struct LookupRecording {
-    pub answer: Completed,
-    pub sizes: Sizes,
-}
-
-// The shape of a cascade is right: no reason 1.
-pub fn has_cascade_shape(sizes: Sizes, keys: &[u16], multiplicities: &[u64]) -> bool
-    ensures { result ≡ cascade_shape (cascade sizes keys.now multiplicities.now) }
-{
-    let capacity = sizes.capacity;
-    if MAX_CASCADE_PLACES < capacity {
-        return false;
-    }
-    if capacity < sizes.used {
-        return false;
-    }
-    if keys.len() != capacity {
-        return false;
-    }
-    multiplicities.len() == capacity
-}
-
-// Whether a place of the run holds the value. The run is looked at to its end, so that many places are compared at a time.
-fn holds_among(keys: &[u16], from: usize, to: usize, value: u16) -> bool
-    requires { to ≤ length keys.now }
-    ensures { result ≡ false → NoneHolds keys.now from to value }
-{
-    let mut found = false;
-    let mut i = from;
-    while i < to {
-        if keys[i] == value {
-            found = true;
+impl LentCascade<'_> {
+    // Reason 1. With the most places and the words of a key as arguments, one function for this and `list::list_shape` would be no plainer.
+    #[tactic(auto, unfolding(crate::specs::Cascades::cascade_shape))]
+    pub fn judge_shape(&self) -> Result<(), Refusal>
+        ensures { result ≡ decline_if (not (cascade_shape (cascade_in self.now))) Shape }
+    {
+        let capacity = self.sizes.capacity;
+        if capacity <= MAX_CASCADE_PLACES
+            && self.sizes.used <= capacity
+            && self.keys.len() == capacity
+            && self.multiplicities.len() == capacity
+        {
+            Ok(())
+        } else {
+            Err(Refusal::Shape)
         }
-        i += 1;
     }
-    found
 }
 
-// The first of the first n places that holds the value, or n where none does: 256 at a time, up to a run that holds it, or to the last run;
-// from there one by one.
-fn find_value(keys: &[u16], n: usize, value: u16) -> usize
-    requires { n ≤ length keys.now }
-    ensures { result ≡ find_from keys.now value 0 n }
+// Whether one of the keys is the value. They are looked at to their end, so that many are compared at a time: `contains` takes a fifth longer.
+fn holds(keys: &[u16], value: u16) -> bool
+    ensures { result ≡ occurs value keys.now }
 {
-    let runs = n / 256;
-    let mut run: usize = 0;
-    while run < runs {
-        if holds_among(keys, 256 * run, 256 * run + 256, value) {
+    keys.iter()
+        .fold(false, |found, key| found | (*key == value))
+}
+
+// The first of the first n places that holds the value: 256 at a time, up to a run that holds it, or to the last run; from there one by one.
+// `position` over all of them takes nine times as long.
+fn find_value(keys: &[u16], n: usize, value: u16) -> Option<usize>
+    requires { n ≤ length keys.now }
+    ensures { MatchOption result (find_from keys.now value 0 n ≡ n) (λ at. (at < n) × (at ≡ find_from keys.now value 0 n)) }
+{
+    let mut passed: usize = 0;
+    for run in 0..n / 256 {
+        if holds(&keys[256 * run..256 * run + 256], value) {
             break;
         }
-        run += 1;
+        passed = 256 * (run + 1);
     }
-    let mut i: usize = 256 * run;
-    while i < n {
-        if keys[i] == value {
-            return i;
+    for place in passed..n {
+        if keys[place] == value {
+            return Some(place);
         }
-        i += 1;
     }
-    i
+    None
 }
 
-// Whether a multiplicity would be raised past the limit.
+// Whether a multiplicity would be raised past the limit. A sum that no word holds is past it too.
 fn would_pass_limit(multiplicity: u64, more: u64) -> bool
     ensures { result ≡ count_full (multiplicity + more) }
 {
-    if MULTIPLICITY_LIMIT < multiplicity {
-        return true;
-    }
-    MULTIPLICITY_LIMIT - multiplicity < more
+    list::count_full(multiplicity.saturating_add(more))
+}
+
+// The high and the low byte of a 16-bit value.
+fn bytes_of(limb: u16) -> (usize, usize)
+    ensures { (result.0 ≡ high_byte limb) × (result.1 ≡ low_byte limb) }
+{
+    let [high, low] = limb.to_be_bytes();
+    (usize::from(high), usize::from(low))
 }
 
 // Whether a new value would raise the multiplicity of one of its bytes past the limit: by two where they are equal.
@@ -159,133 +143,79 @@ fn bytes_full(byte_multiplicities: &[u64], limb: u16) -> bool
     requires { length byte_multiplicities.now ≡ byte_rows }
     ensures { result ≡ bytes_full byte_multiplicities.now limb }
 {
-    let high = (limb / 256) as usize;
-    let low = (limb % 256) as usize;
+    let (high, low) = bytes_of(limb);
     if high == low {
-        return would_pass_limit(byte_multiplicities[high], 2);
-    }
-    if would_pass_limit(byte_multiplicities[high], 1) {
-        return true;
-    }
-    would_pass_limit(byte_multiplicities[low], 1)
-}
-
-// Where a value goes, or the first reason against recording it: 1, then 5, then 14. Of a known value the bytes are not looked at.
-fn find_limb(
-    sizes: Sizes,
-    keys: &[u16],
-    multiplicities: &[u64],
-    byte_multiplicities: &[u64],
-    limb: u16,
-) -> LimbPlace
-    ensures { result ≡ place_of (lookups sizes keys.now multiplicities.now byte_multiplicities.now) limb }
-{
-    if !has_cascade_shape(sizes, keys, multiplicities) {
-        return LimbPlace::Refused(Refusal::Shape);
-    }
-    if byte_multiplicities.len() != BYTE_ROWS {
-        return LimbPlace::Refused(Refusal::Shape);
-    }
-    let used = sizes.used;
-    let at = find_value(keys, used, limb);
-    if at < used {
-        if would_pass_limit(multiplicities[at], 1) {
-            return LimbPlace::Refused(Refusal::CountFull);
-        }
-        return LimbPlace::Known(at);
-    }
-    if bytes_full(byte_multiplicities, limb) {
-        return LimbPlace::Refused(Refusal::CountFull);
-    }
-    if used < sizes.capacity {
-        LimbPlace::New
+        would_pass_limit(byte_multiplicities[high], 2)
     } else {
-        LimbPlace::Refused(Refusal::CascadeFull)
+        would_pass_limit(byte_multiplicities[high], 1)
+            || would_pass_limit(byte_multiplicities[low], 1)
     }
 }
 
-// Stores at a place that was found: the value there gains one; or the new value is appended with 1, and its bytes gain one each; a refusal
-// stores nothing.
-fn store_limb(
-    sizes: Sizes,
-    keys: &mut [u16],
-    multiplicities: &mut [u64],
-    byte_multiplicities: &mut [u64],
-    limb: u16,
-    place: LimbPlace,
-) -> LookupRecording
-    requires { Fits (lookups sizes keys.old multiplicities.old byte_multiplicities.old) limb place }
-    ensures { Leaves (stored_at (lookups sizes keys.old multiplicities.old byte_multiplicities.old) limb place) (completed_answer result.answer) (lookups result.sizes keys.new multiplicities.new byte_multiplicities.new) }
-{
-    match place {
-        LimbPlace::Known(at) => {
-            multiplicities[at] += 1;
-            LookupRecording {
-                answer: Completed::Done,
-                sizes,
-            }
+impl LentLookupsMut<'_> {
+    // The cascade, to be looked at.
+    fn cascade(&self) -> LentCascade<'_>
+        ensures { cascade_in result ≡ (lookups_in self.now).values }
+    {
+        LentCascade {
+            sizes: self.sizes,
+            keys: self.keys,
+            multiplicities: self.multiplicities,
         }
-        LimbPlace::New => {
-            let used = sizes.used;
-            keys[used] = limb;
-            multiplicities[used] = 1;
-            let high = (limb / 256) as usize;
-            let low = (limb % 256) as usize;
-            byte_multiplicities[high] += 1;
-            byte_multiplicities[low] += 1;
-            LookupRecording {
-                answer: Completed::Done,
-                sizes: Sizes {
-                    capacity: sizes.capacity,
-                    used: used + 1,
-                },
-            }
-        }
-        LimbPlace::Refused(reason) => LookupRecording {
-            answer: Completed::Refused(reason),
-            sizes,
-        },
     }
-}
 
-// A known value gains one; a new one is appended with 1, and its two bytes gain one each. The sizes come back beside the answer.
-pub fn increase_lookup_multiplicities_for_limb_by_value(
-    sizes: Sizes,
-    keys: &mut [u16],
-    multiplicities: &mut [u64],
-    byte_multiplicities: &mut [u64],
-    limb: u16,
-) -> LookupRecording
-    ensures { Leaves (look_up_all (lookups sizes keys.old multiplicities.old byte_multiplicities.old) limb) (completed_answer result.answer) (lookups result.sizes keys.new multiplicities.new byte_multiplicities.new) }
-{
-    let place = find_limb(sizes, keys, multiplicities, byte_multiplicities, limb);
-    store_limb(
-        sizes,
-        keys,
-        multiplicities,
-        byte_multiplicities,
-        limb,
-        place,
-    )
-}
+    // Where a value goes, or the first reason against recording it: 1, then 5, then 14. Of a known value the bytes are not looked at.
+    fn find_limb(&self, limb: u16) -> Result<LimbPlace, Refusal>
+        ensures { result ≡ place_of (lookups_in self.now) limb }
+    {
+        self.cascade().judge_shape()?;
+        if self.byte_multiplicities.len() != BYTE_ROWS {
+            return Err(Refusal::Shape);
+        }
+        let used = self.sizes.used;
+        if let Some(at) = find_value(self.keys, used, limb) {
+            if would_pass_limit(self.multiplicities[at], 1) {
+                return Err(Refusal::CountFull);
+            }
+            return Ok(LimbPlace::Known(at));
+        }
+        if bytes_full(self.byte_multiplicities, limb) {
+            return Err(Refusal::CountFull);
+        }
+        if used < self.sizes.capacity {
+            Ok(LimbPlace::New)
+        } else {
+            Err(Refusal::CascadeFull)
+        }
+    }
 
-// The same recording, with the sizes lent.
-pub fn increase_lookup_multiplicities_for_limb(
-    sizes: &mut Sizes,
-    keys: &mut [u16],
-    multiplicities: &mut [u64],
-    byte_multiplicities: &mut [u64],
-    limb: u16,
-) -> Completed
-    ensures { Leaves (look_up_all (lookups sizes.old keys.old multiplicities.old byte_multiplicities.old) limb) (completed_answer result) (lookups sizes.new keys.new multiplicities.new byte_multiplicities.new) }
-{
-    let r = increase_lookup_multiplicities_for_limb_by_value(
-        *sizes,
-        keys,
-        multiplicities,
-        byte_multiplicities,
-        limb,
-    );
-    *sizes = r.sizes;
-    r.answer
+    // Stores at a place that was found: the value there gains one; or the new value is appended with 1, and its bytes gain one each.
+    fn store_limb(&mut self, limb: u16, place: LimbPlace)
+        requires { Fits (lookups_in self.old) limb (Ok place) }
+        ensures outcome { Leaves (stored_at (lookups_in self.old) limb (Ok place)) (done []) (lookups_in self.new) }
+        ensures same_arrays { SameArrays self.old self.new }
+    {
+        match place {
+            LimbPlace::Known(at) => self.multiplicities[at] += 1,
+            LimbPlace::New => {
+                let used = self.sizes.used;
+                self.keys[used] = limb;
+                self.multiplicities[used] = 1;
+                let (high, low) = bytes_of(limb);
+                self.byte_multiplicities[high] += 1;
+                self.byte_multiplicities[low] += 1;
+                self.sizes.used += 1;
+            }
+        }
+    }
+
+    // A known value gains one; a new one is appended with 1, and its two bytes gain one each.
+    pub fn increase_lookup_multiplicities_for_limb(&mut self, limb: u16) -> Result<(), Refusal>
+        ensures outcome { Leaves (look_up_all (lookups_in self.old) limb) (completed_answer result) (lookups_in self.new) }
+        ensures same_arrays { SameArrays self.old self.new }
+    {
+        let place = self.find_limb(limb)?;
+        self.store_limb(limb, place);
+        Ok(())
+    }
 }

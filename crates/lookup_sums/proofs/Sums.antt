@@ -1,79 +1,41 @@
 -- The reasons against a sum over a lookup table in their order, 1, 8, 9: what each test makes of the answer and of the aux words; that the sum over the
 -- bytes is that over the cascade's places that hold 0, 1, .., 255 (bytes_summed); and that the answer is 9 exactly where some denominator is zero and
 -- 1 and 8 are not met (byte_flat_exactly, cascade_flat_exactly). Assumes nothing.
-use Prim.Native.Nat.{ℕ, ◌+◌, ◌*◌, ◌<◌}
-use mathlib.Core.Path.{◌≡◌, refl, sym, ap, ◌∙◌}
+use Prim.Native.Nat.{ℕ, ◌*◌, ◌<◌}
+use mathlib.Core.Path.{◌≡◌, refl, sym, ap, subst, ◌∙◌}
 use mathlib.Core.Logic.{◌↔◌}
 use mathlib.Core.Bool.{Bool, true, false, not, ◌&&◌, and-eq-true_iff}
 use mathlib.Core.List.{List}
 use native.Mathlib.Omega.{arith}
-use lib.ListN.{length, get_or, set, take}
-use lib.Seq.{get_or-set_same, get_or-set_other}
-use borrow.Author.Count.{below_more}
-use borrow.Author.Tests.{eqb-true, eq-eqb, ne_eqb}
-use Rattle.words.specs.Answers.{declined}
+use lib.ListN.{length, get_or, take}
+use borrow.Author.Tests.{eqb-true, eq-eqb}
+use Rattle.words.specs.Answers.{Answer, declined}
 use Rattle.words.specs.Limits.{byte_rows}
-use Rattle.words.specs.Outcomes.{Outcome}
-use Rattle.words.specs.Refusals.{decline_if, or_else}
-use Rattle.words.specs.declared.Judgement.{Judgement}
-use Rattle.words.specs.declared.Judgement.TheVariants.{Fine, Declined}
+use Rattle.words.specs.Outcomes.{Outcome, Leaves}
+use Rattle.words.specs.Refusals.{decline_if, or_else, Judgement, Fine, Declined}
 use Rattle.words.specs.declared.Refusal.TheVariants.{Shape, Unreduced, Flat}
+use Rattle.words.proofs.Judgements.{decline_not_fine}
 use Rattle.words.proofs.Outcomes.{outcome_declined}
-use Rattle.xfield.specs.Extension.{Ext, Reduced, is_zero_x}
+use Rattle.xfield.specs.Extension.{Reduced}
 use Rattle.xfield.proofs.Laws.{sub_x_reduced}
 use Rattle.table.specs.Columns.{aux_width, all_reduced}
-use Rattle.sums.specs.RunningSum.{Summand, denominator_ok, denominators_ok, ZeroDenominator}
+use Rattle.sums.specs.RunningSum.{Summand, denominators_ok, ZeroDenominator}
 use Rattle.sums.proofs.RunningSums.{sum_cong}
 use Rattle.sums.proofs.SumsAlike.{words_alike, denominators_alike}
 use Rattle.sums.proofs.ZeroDenominators as Denominators
-use Rattle.lookup.specs.ByteLookup.{cascade_output}
+use Rattle.lookup.specs.ByteLookup.{byte_output, cascade_output}
 use Rattle.lookup.specs.Cascades.{Cascade, capacity, used, cascade_shape, bytes_shape}
 use Rattle.lookup_sums.specs.LookupSums.{LookupChallenges, lookup_challenge_words, lookup_challenges_of, lookup_denominator, lookup_summand, byte_summand, cascade_summand}
 use Rattle.lookup_sums.specs.LookupSums.{sum_shape, places_reason, summed_as, byte_sum_reason, byte_sum_all, cascade_sum_reason, cascade_sum_all}
 use Rattle.lookup_sums.specs.Flat.{ByteFlatExactly, CascadeFlatExactly}
+use Rattle.lookup.proofs.LookupCases.{Shaped, shaped}
 use Rattle.lookup_sums.proofs.OneSum.{byte_summand_lem}
-
--- ---- the numbers 0, 1, .. one after the other
-
-pub one_key_more : (keys : List ℕ) (n : ℕ) → n < length keys → ((i : ℕ) → i < n → get_or keys i 0 ≡ i)
-    → (i : ℕ) → i < n + 1 → get_or (set keys n n) i 0 ≡ i
-one_key_more keys n h f i l =
-    below_more (λ j. get_or (set keys n n) j 0 ≡ j) n
-    (λ j b. get_or-set_other keys n j n 0 (omega arith) ∙ f j b) (get_or-set_same keys n n 0 h) i (omega arith)
-
--- ---- the summand of a value, with the challenges that the code holds
-
-pub place_summand : (keys ms challenges : List ℕ) (i : ℕ) {c : LookupChallenges} → c ≡ lookup_challenges_of challenges
-    → lookup_summand c (get_or keys i 0) (cascade_output (get_or keys i 0)) (get_or ms i 0) ≡ cascade_summand keys ms challenges i
-unfolding cascade_summand
-place_summand keys ms challenges i e = rw e
-
-pub place_ok : (keys ms challenges : List ℕ) (i : ℕ) {c : LookupChallenges} {d : Ext} → c ≡ lookup_challenges_of challenges
-    → d ≡ lookup_denominator c (get_or keys i 0) (cascade_output (get_or keys i 0)) → denominator_ok (cascade_summand keys ms challenges i) ≡ not (is_zero_x d)
-unfolding cascade_summand denominator_ok
-place_ok keys ms challenges i e f = rw (f, e)
 
 -- ---- 8 and 9
 
 module _ (s : ℕ → Summand) (n : ℕ) (ms challenges : List ℕ) where
   abbrev reduced : Bool
   reduced = all_reduced challenges && all_reduced (take n ms)
-
-  pub challenges_unreduced : all_reduced challenges ≡ false → places_reason s n ms challenges ≡ Declined Unreduced
-  unfolding places_reason
-  challenges_unreduced r = rw r
-
-  pub multiplicities_unreduced : all_reduced challenges ≡ true → all_reduced (take n ms) ≡ false → places_reason s n ms challenges ≡ Declined Unreduced
-  unfolding places_reason
-  multiplicities_unreduced r m = rw (r, m)
-
-  pub flat : all_reduced challenges ≡ true → all_reduced (take n ms) ≡ true → denominators_ok s n ≡ false → places_reason s n ms challenges ≡ Declined Flat
-  unfolding places_reason
-  flat r m d = rw (r, m, d)
-
-  pub fine : all_reduced challenges ≡ true → all_reduced (take n ms) ≡ true → denominators_ok s n ≡ true → places_reason s n ms challenges ≡ Fine
-  unfolding places_reason
-  fine r m d = rw (r, m, d)
 
   -- ---- 1 before them, of any shape; and 9: each of the other ways through the tests has another number
 
@@ -153,38 +115,32 @@ pub sum_shaped : (places : ℕ) (challenges aux : List ℕ) → sum_shape places
 unfolding sum_shape
 sum_shaped places challenges aux e = let a = (and-eq-true_iff _ _).0 e in (eqb-true _ _ a.0, eqb-true _ _ a.1)
 
-pub bytes_wrong : (bytes challenges aux : List ℕ) → (length bytes ≡ byte_rows → ⊥) → (bytes_shape bytes && sum_shape byte_rows challenges aux) ≡ false
-unfolding bytes_shape
-bytes_wrong bytes challenges aux n = rw (ne_eqb _ _ n)
+pub cascade_shaped : {c : Cascade} → Fine ≡ decline_if (not (cascade_shape c)) Shape → Shaped c
+cascade_shaped e = shaped _ (decline_not_fine _ Shape (sym e))
 
-pub bytes_right : (bytes challenges aux : List ℕ) → length bytes ≡ byte_rows
-    → (bytes_shape bytes && sum_shape byte_rows challenges aux) ≡ sum_shape byte_rows challenges aux
-unfolding bytes_shape
-bytes_right bytes challenges aux e = rw (eq-eqb _ _ e)
+-- where they are right, 8 and 9 decide; the summands have the challenges as the code holds them
+pub bytes_summed_right : (bytes challenges aux : List ℕ) {c : LookupChallenges} {given : Answer} {left : List ℕ}
+    → length bytes ≡ byte_rows → sum_shape byte_rows challenges aux ≡ true → c ≡ lookup_challenges_of challenges
+    → (let s : ℕ → Summand = λ i. lookup_summand c i (byte_output i) (get_or bytes i 0) in
+    Leaves (summed_as (places_reason s byte_rows bytes challenges) s byte_rows aux) given left)
+    → Leaves (byte_sum_all bytes challenges aux) given left
+unfolding byte_sum_all byte_sum_reason bytes_shape byte_summand
+bytes_summed_right bytes challenges aux {given = given} {left = left} n r e k =
+    let due : (LookupChallenges → Outcome (List ℕ)) =
+    λ d. (let s : ℕ → Summand = λ i. lookup_summand d i (byte_output i) (get_or bytes i 0) in summed_as (places_reason s byte_rows bytes challenges) s byte_rows aux) in
+    rw (eq-eqb _ _ n, r) (subst (λ d. Leaves (due d) given left) e k)
 
--- where they are right, 8 and 9 decide
-pub byte_sum_right : (bytes challenges aux : List ℕ) → (bytes_shape bytes && sum_shape byte_rows challenges aux) ≡ true
-    → byte_sum_all bytes challenges aux
-    ≡ summed_as (places_reason (byte_summand bytes challenges) byte_rows bytes challenges) (byte_summand bytes challenges) byte_rows aux
-unfolding byte_sum_all byte_sum_reason
-byte_sum_right bytes challenges aux e = rw e
-
-pub byte_sum_wrong : (bytes challenges aux : List ℕ) → (bytes_shape bytes && sum_shape byte_rows challenges aux) ≡ false
-    → byte_sum_all bytes challenges aux ≡ record { answer = declined Shape; left = aux }
-unfolding byte_sum_all byte_sum_reason
-byte_sum_wrong bytes challenges aux e = rw e
-
-pub cascade_sum_right : (c : Cascade) (challenges aux : List ℕ) → (cascade_shape c && sum_shape (capacity c) challenges aux) ≡ true
-    → cascade_sum_all c challenges aux
-    ≡ summed_as (places_reason (cascade_summand c.keys c.multiplicities challenges) (used c) c.multiplicities challenges)
-    (cascade_summand c.keys c.multiplicities challenges) (used c) aux
-unfolding cascade_sum_all cascade_sum_reason
-cascade_sum_right c challenges aux e = rw e
-
-pub cascade_sum_wrong : (c : Cascade) (challenges aux : List ℕ) → (cascade_shape c && sum_shape (capacity c) challenges aux) ≡ false
-    → cascade_sum_all c challenges aux ≡ record { answer = declined Shape; left = aux }
-unfolding cascade_sum_all cascade_sum_reason
-cascade_sum_wrong c challenges aux e = rw e
+pub cascade_summed_right : (l : Cascade) (challenges aux : List ℕ) {c : LookupChallenges} {given : Answer} {left : List ℕ}
+    → Fine ≡ decline_if (not (cascade_shape l)) Shape → sum_shape (capacity l) challenges aux ≡ true → c ≡ lookup_challenges_of challenges
+    → (let s : ℕ → Summand = λ i. lookup_summand c (get_or l.keys i 0) (cascade_output (get_or l.keys i 0)) (get_or l.multiplicities i 0) in
+    Leaves (summed_as (places_reason s (used l) l.multiplicities challenges) s (used l) aux) given left)
+    → Leaves (cascade_sum_all l challenges aux) given left
+unfolding cascade_sum_all cascade_sum_reason cascade_summand
+cascade_summed_right l challenges aux {given = given} {left = left} n r e k =
+    let due : (LookupChallenges → Outcome (List ℕ)) =
+    λ d. (let s : ℕ → Summand = λ i. lookup_summand d (get_or l.keys i 0) (cascade_output (get_or l.keys i 0)) (get_or l.multiplicities i 0) in
+    summed_as (places_reason s (used l) l.multiplicities challenges) s (used l) aux) in
+    rw (decline_not_fine (cascade_shape l) Shape (sym n), r) (subst (λ d. Leaves (due d) given left) e k)
 
 -- the sum over the bytes, by that over keys 0, 1, .., 255
 pub bytes_summed : (keys bytes challenges aux : List ℕ) → ((i : ℕ) → i < byte_rows → get_or keys i 0 ≡ i)

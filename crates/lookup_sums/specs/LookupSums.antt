@@ -4,8 +4,7 @@ use Rattle.std.specs.Prelude.{ℕ, ◌*◌, Bool, not, ◌&&◌, List, eqb, leng
 use Rattle.std.proofs.lemmas.List.Edits.{sets}
 use Rattle.words.specs.Limits.{byte_rows}
 use Rattle.words.specs.Outcomes.{Outcome, outcome}
-use Rattle.words.specs.Refusals.{decline_if, or_else}
-use Rattle.words.specs.declared.Judgement.{Judgement}
+use Rattle.words.specs.Refusals.{decline_if, or_else, Judgement}
 use Rattle.words.specs.declared.Refusal.TheVariants.{Shape, Unreduced, Flat}
 use Rattle.xfield.specs.Extension.{Ext, add_x, sub_x, scale_x}
 use Rattle.table.specs.Columns.{aux_width, element_at, all_reduced}

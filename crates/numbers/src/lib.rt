@@ -1,11 +1,10 @@
-// Numbers in a text, read byte by byte: decimal digits, with one or more spaces or newlines between the numbers and anywhere around them.
+// Numbers in a text, read byte by byte: decimal digits, with one or more spaces or newlines between the numbers and anywhere around them. And the
+// reading of a whole text in parts of any sizes, for every kind of sheet that takes the numbers.
 #![tactic(auto)]
 
-ghost use Rattle.std.specs.Prelude.{replicate, ◌≡◌, ◌≤◌};
+ghost use Rattle.std.specs.Prelude.{◌≡◌, ℕ, ◌≤◌, List, length, replicate, Ok};
 ghost use Rattle.numbers.specs.Numbers.{start_place, line_of_next, gap_step, digit_step, step_of};
-
-// The largest word.
-const MAX_WORD: u64 = 18446744073709551615;
+ghost use Rattle.numbers.specs.Sheets.{IsFed, take_ended, feed_byte, feed_all, end_number};
 
 // How far a text has been read.
 #[derive(Clone, Copy)]
@@ -14,21 +13,50 @@ pub struct Place {
     pub line: u64,
     // That byte ended its line.
     pub ended: bool,
-    // That byte was a digit.
-    pub inside: bool,
-    // The number so far, where that byte was a digit, else 0.
-    pub value: u64,
+    // The number so far, where that byte was a digit.
+    pub number: Option<u64>,
 }
 
-// What one more byte is.
+// What one more byte is, a part of a number or of what stands between numbers.
 #[derive(Clone, Copy)]
-pub enum Step {
-    // A part of a number, or of what stands between numbers.
-    On(Place),
-    // The first byte after a number.
-    Number(u64, Place),
-    // No part of a text of numbers, or the digit with which a number is past 64 bits; on this line.
-    Fault(u64),
+pub struct Step {
+    // The number that it ended.
+    pub number: Option<u64>,
+    pub place: Place,
+}
+
+// What speaks against a text first.
+#[derive(Clone, Copy)]
+pub enum Fault {
+    // No such text goes on so: the line.
+    Malformed(u64),
+    // More than are taken, as the sheet counts them.
+    TooMany(u64),
+}
+
+// How far a text of numbers has been read, and the sheet that takes its numbers.
+#[derive(Clone, Copy)]
+pub struct Reader<S> {
+    pub place: Place,
+    pub sheet: S,
+}
+
+// What takes the numbers of a text: each has its place among lent words.
+pub trait Sheet: Copy {
+    ghost use Rattle.numbers.specs.Sheets.{Fed, IsTaken};
+
+    // So many words have places for all numbers.
+    ghost room: { ℕ };
+
+    // The numbers that are due have places among them.
+    ghost Fits: { Self → Type 0 };
+
+    // What one number more, which ended on this line, leaves.
+    ghost takes: { (line : ℕ) → Self → (value : ℕ) → (words : List ℕ) → Fed Self };
+
+    fn take(self, line: u64, value: u64, words: &mut [u64]) -> Result<Self, Fault>
+        requires { (room ≤ length words.old) × Fits self }
+        ensures { IsTaken Fits (takes line self value words.old) result words.new };
 }
 
 // Before the first byte.
@@ -38,8 +66,7 @@ pub fn start() -> Place
     Place {
         line: 1,
         ended: false,
-        inside: false,
-        value: 0,
+        number: None,
     }
 }
 
@@ -48,63 +75,53 @@ fn line_of_next(place: Place) -> u64
     ensures { result ≡ line_of_next place }
 {
     if place.ended {
-        if place.line < MAX_WORD {
-            return place.line + 1;
-        }
+        place.line.saturating_add(1)
+    } else {
+        place.line
     }
-    place.line
 }
 
-// A space or a newline, on this line.
+// A space or a newline, on this line, ends the number before it.
 fn gap_step(place: Place, line: u64, newline: bool) -> Step
     ensures { result ≡ gap_step place line newline }
 {
-    let next = Place {
-        line,
-        ended: newline,
-        inside: false,
-        value: 0,
-    };
-    if place.inside {
-        return Step::Number(place.value, next);
+    Step {
+        number: place.number,
+        place: Place {
+            line,
+            ended: newline,
+            number: None,
+        },
     }
-    Step::On(next)
 }
 
-// A digit, on this line, after those that make a number.
-fn digit_step(line: u64, before: u64, digit: u64) -> Step
-    requires { digit ≤ 9 }
+// A digit, on this line, after those that make a number: the line, where the number is then past 64 bits.
+fn digit_step(line: u64, before: u64, digit: u64) -> Result<Step, u64>
     ensures { result ≡ digit_step line before digit }
 {
-    if (MAX_WORD - digit) / 10 < before {
-        return Step::Fault(line);
-    }
-    Step::On(Place {
-        line,
-        ended: false,
-        inside: true,
-        value: 10 * before + digit,
+    let tens = before.checked_mul(10).ok_or(line)?;
+    let value = tens.checked_add(digit).ok_or(line)?;
+    Ok(Step {
+        number: None,
+        place: Place {
+            line,
+            ended: false,
+            number: Some(value),
+        },
     })
 }
 
-// A text that was read up to this place, and one byte more.
-pub fn next(place: Place, byte: u8) -> Step
+// A text that was read up to this place, and one byte more: the line, where the byte is no part of a text of numbers.
+pub fn next(place: Place, byte: u8) -> Result<Step, u64>
     ensures { result ≡ step_of place byte }
 {
     let line = line_of_next(place);
-    if byte == b' ' {
-        return gap_step(place, line, false);
+    match byte {
+        b' ' => Ok(gap_step(place, line, false)),
+        b'\n' => Ok(gap_step(place, line, true)),
+        b'0'..=b'9' => digit_step(line, place.number.unwrap_or(0), (byte - b'0') as u64),
+        _ => Err(line),
     }
-    if byte == b'\n' {
-        return gap_step(place, line, true);
-    }
-    if byte < b'0' {
-        return Step::Fault(line);
-    }
-    if b'9' < byte {
-        return Step::Fault(line);
-    }
-    digit_step(line, place.value, (byte - b'0') as u64)
 }
 
 // Room for the numbers of a text, as many as a program takes: all 0.
@@ -112,4 +129,53 @@ pub fn room() -> [u64; 163856]
     ensures { result ≡ replicate 163856 0 }
 {
     [0; 163856]
+}
+
+// ---- a whole text
+// The number that a byte or the text's end ended, if it did, goes to its place; the text is read on from here.
+fn take_ended<S: Sheet>(
+    sheet: S,
+    number: Option<u64>,
+    place: Place,
+    words: &mut [u64],
+) -> Result<Reader<S>, Fault>
+    requires { (S.room ≤ length words.old) × S.Fits sheet }
+    ensures { IsFed S.Fits (take_ended S.takes place number sheet words.old) result words.new }
+{
+    let sheet = match number {
+        None => sheet,
+        Some(value) => sheet.take(place.line, value, words)?,
+    };
+    Ok(Reader { place, sheet })
+}
+
+// A byte more.
+fn read_byte<S: Sheet>(reader: Reader<S>, byte: u8, words: &mut [u64]) -> Result<Reader<S>, Fault>
+    requires { (S.room ≤ length words.old) × S.Fits reader.sheet }
+    ensures { IsFed S.Fits (feed_byte S.takes (Ok reader) byte words.old) result words.new }
+{
+    match next(reader.place, byte) {
+        Ok(step) => take_ended(reader.sheet, step.number, step.place, words),
+        Err(line) => Err(Fault::Malformed(line)),
+    }
+}
+
+// Reads a part more of a text: its numbers are put into the lent words, each at its place.
+pub fn feed<S: Sheet>(reader: Reader<S>, part: &[u8], words: &mut [u64]) -> Result<Reader<S>, Fault>
+    requires { (S.room ≤ length words.old) × S.Fits reader.sheet }
+    ensures { IsFed S.Fits (feed_all S.takes (Ok reader) part.now words.old) result words.new }
+{
+    let mut reached = reader;
+    for byte in part {
+        reached = read_byte(reached, *byte, words)?;
+    }
+    Ok(reached)
+}
+
+// The end of a text, which ends a number too.
+pub fn end_number<S: Sheet>(reader: Reader<S>, words: &mut [u64]) -> Result<Reader<S>, Fault>
+    requires { (S.room ≤ length words.old) × S.Fits reader.sheet }
+    ensures { IsFed S.Fits (end_number S.takes (Ok reader) words.old) result words.new }
+{
+    take_ended(reader.sheet, reader.place.number, reader.place, words)
 }

@@ -1,41 +1,14 @@
--- Lists place by place, and the tests of lengths. Assumes nothing.
-use Prim.Native.Nat.{ℕ, zero, suc, ◌+◌, ◌<◌}
+-- Lists place by place. Assumes nothing.
+use Prim.Native.Nat.{ℕ, zero, suc, ◌<◌}
 use mathlib.Core.Path.{◌≡◌, refl, sym, ap, ◌∙◌}
-use mathlib.Core.Bool.{Bool, true, false, true≢false}
 use mathlib.Core.List.{List, [], ◌∷◌}
 use native.Mathlib.Omega.{arith}
-use native.Mathlib.Numerals.{add-one}
-use lib.ListN.{length, get_or, set}
-use lib.Seq.{ext_get_or, get_or-set_same, get_or-set_other}
-use borrow.Author.Count.{below_more}
-use borrow.Author.Tests.{eq-eqb, ne_eqb}
+use lib.ListN.{length, get_or}
+use lib.Seq.{ext_get_or}
 use Rattle.field.specs.Elements.{mul_f, inv_f}
-use Rattle.probes.specs.Probes.{answered, written, products_fit, products_of, chain_of, inverses_fit, inverses_of}
-
--- where the lengths do not fit nothing is written; where they do, the values are
-pub declines : (fits : Bool) (values out : List ℕ) → fits ≡ false → (1 ≡ answered fits) × (out ≡ written fits values out)
-unfolding answered written
-declines false values out e = (refl, refl)
-declines true values out e = absurd (true≢false e)
-
-pub writes : (fits : Bool) (values old out : List ℕ) → fits ≡ true → out ≡ values → (0 ≡ answered fits) × (out ≡ written fits values old)
-unfolding answered written
-writes false values old out e f = absurd (true≢false (sym e))
-writes true values old out e f = (refl, f)
+use Rattle.probes.specs.Probes.{products_of, inverses_of}
 
 -- ---- products
-pub left_differs : (left right out : List ℕ) → (length left ≡ length out → ⊥) → products_fit left right out ≡ false
-unfolding products_fit
-left_differs left right out h = rw (ne_eqb (length left) (length out) h)
-
-pub right_differs : (left right out : List ℕ) → length left ≡ length out → (length right ≡ length out → ⊥) → products_fit left right out ≡ false
-unfolding products_fit
-right_differs left right out e h = rw (eq-eqb (length left) (length out) e, ne_eqb (length right) (length out) h)
-
-pub products_fit_lem : (left right out : List ℕ) → length left ≡ length out → length right ≡ length out → products_fit left right out ≡ true
-unfolding products_fit
-products_fit_lem left right out e f = rw (eq-eqb (length left) (length out) e, eq-eqb (length right) (length out) f)
-
 length_products : (left right : List ℕ) → length left ≡ length right → length (products_of left right) ≡ length right
 unfolding products_of
 length_products [] right e = e
@@ -58,14 +31,6 @@ are_products left right out e f all =
     (λ k h. all k h ∙ sym (products_at left right k (omega (arith, e, h)) (omega (arith, f, h))))
 
 -- ---- inverses
-pub inverses_fit_lem : (words out : List ℕ) → length words ≡ length out → inverses_fit words out ≡ true
-unfolding inverses_fit
-inverses_fit_lem words out e = eq-eqb (length words) (length out) e
-
-pub words_differ : (words out : List ℕ) → (length words ≡ length out → ⊥) → inverses_fit words out ≡ false
-unfolding inverses_fit
-words_differ words out h = ne_eqb (length words) (length out) h
-
 length_inverses : (words : List ℕ) → length (inverses_of words) ≡ length words
 unfolding inverses_of
 length_inverses [] = refl
@@ -82,18 +47,3 @@ pub are_inverses : (words out : List ℕ) → length words ≡ length out → ((
     → out ≡ inverses_of words
 are_inverses words out e all =
     ext_get_or 0 out (inverses_of words) (sym (length_inverses words ∙ e)) (λ k h. all k h ∙ sym (inverses_at words k (omega (arith, e, h))))
-
--- ---- loops
-pub chain_turn : (start factor n : ℕ) → mul_f (chain_of start factor n) factor ≡ chain_of start factor (n + 1)
-unfolding chain_of
-chain_turn start factor n = rw (add-one n) refl
-
--- a turn of a loop that writes place i: the places below i keep what they have, and place i gets its own
-pub turn : (f : ℕ → ℕ) (out : List ℕ) (i v : ℕ) → i < length out → ((k : ℕ) → k < i → get_or out k 0 ≡ f k) → v ≡ f i → (k : ℕ) → k < i + 1
-    → get_or (set out i v) k 0 ≡ f k
-turn f out i v l all e =
-    below_more
-    (λ (k : ℕ). get_or (set out i v) k 0 ≡ f k)
-    i
-    (λ k h. get_or-set_other out i k v 0 (λ (q : k ≡ i). omega (arith, h, q)) ∙ all k h)
-    (get_or-set_same out i v 0 l ∙ e)

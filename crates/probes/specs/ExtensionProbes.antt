@@ -1,8 +1,8 @@
 -- What the probes of extension elements write: an operation element by element, three words each. What they answer is in Probes.antt.
 use Rattle.std.specs.Prelude.{ℕ, zero, suc, ◌%◌, ◌/◌, Bool, ◌&&◌, List, [], ◌++◌, eqb, length}
-use Rattle.xfield.specs.Extension.{Ext}
+use Rattle.xfield.specs.Extension.{Ext, words_x}
 use Rattle.table.specs.Columns.{element_at}
-use Rattle.probes.specs.Probes.{words_x, products_fit}
+use Rattle.probes.specs.Probes.{products_fit}
 
 -- both are as long as what is written, and are whole elements
 unfoldable pub elements_fit : (left right out : List ℕ) → Bool

@@ -1,3 +1,2 @@
 pub mod Probes
 pub mod ExtensionProbes
-pub mod Operations

@@ -2,7 +2,7 @@
 -- products.
 use Rattle.std.specs.Prelude.{ℕ, zero, suc, ◌+◌, ◌*◌, ◌%◌, ◌≤◌, ◌≡◌, Bool, true, false, cond, ◌&&◌, List, [], ◌∷◌, ◌++◌, map, eqb, length}
 use Rattle.field.specs.Elements.{mul_f, inv_f}
-use Rattle.xfield.specs.Extension.{Ext, InverseOrZeroX}
+use Rattle.xfield.specs.Extension.{Ext, words_x, InverseOrZeroX}
 use Rattle.table.specs.Columns.{Row, row_at, element_at, aux_at}
 use Rattle.table.specs.Challenges.{Challenges, challenges_of}
 use Rattle.air.specs.Constraints.{initial_constraints, consistency_constraints, transition_constraints, terminal_constraints}
@@ -16,10 +16,6 @@ unfoldable pub written : Bool → List ℕ → List ℕ → List ℕ
 written fits values out = cond fits values out
 
 -- ---- constraints
--- the three words of an element
-abbrev pub words_x : Ext → List ℕ
-words_x x = x.a ∷ x.b ∷ x.c ∷ []
-
 -- elements one after the other
 unfoldable pub words_of : List Ext → List ℕ
 words_of [] = []

@@ -2,14 +2,12 @@
 -- open hold exactly where the other has (open_same); the list alone is admitted as the shared one is (alone_admitted). Assumes nothing.
 use Prim.Native.Nat.{ℕ, zero, suc, ◌<◌}
 use mathlib.Core.Path.{◌≡◌, refl, sym, ◌∙◌, subst}
-use mathlib.Core.Bool.{Bool, true, false, cond}
+use mathlib.Core.Bool.{Bool, true, false, cond, not}
 use mathlib.Core.Logic.{◌⊎◌, inl, inr}
-use native.Mathlib.Decide.{ℕ_discrete}
 use native.Mathlib.Omega.{arith}
+use lib.Dec.{eqb}
 use borrow.Author.Tests.{ltb-true}
-use Rattle.words.specs.Refusals.{first_reason}
-use Rattle.words.specs.declared.Judgement.{Judgement}
-use Rattle.words.specs.declared.Judgement.TheVariants.{Fine, Declined}
+use Rattle.words.specs.Refusals.{decline_if, first_reason, Judgement, Fine, Declined}
 use Rattle.words.specs.declared.Refusal.{Refusal}
 use Rattle.words.specs.declared.Refusal.TheVariants.{OpenHold}
 use Rattle.words.proofs.Judgements.{fine_not_declined, or_next, or_first}
@@ -18,7 +16,7 @@ use Rattle.isa.specs.Entries.{judge_as_it_is}
 use Rattle.list.specs.Lists.{used, multiplicity_at, entry_at}
 use Rattle.list.specs.Holds.{HeldList, hold_at, judge_hold, open_hold}
 use Rattle.list.proofs.Finding.{same_key_equal, find_holds}
-use Rattle.list.proofs.HeldLists.{no_hold, closed, hold_open, hold_closed}
+use Rattle.list.proofs.HeldLists.{no_hold, closed}
 use Rattle.list_record.specs.Recording.{place_in, known}
 use Rattle.list_record.proofs.OneKey.{found_known}
 use Rattle.list_record.proofs.Views.{Unknown, EachPlace}
@@ -42,12 +40,13 @@ first_either g k each i (suc n) = go (first_either g k each (suc i) n) (each i) 
   go (inr rest) (inl q) = inr (or_next _ q ∙ rest)
   go rest (inr q) = inr (or_first _ q)
 
+one_test : (t : Bool) (k : Refusal) → (decline_if t k ≡ Fine) ⊎ (decline_if t k ≡ Declined k)
+one_test true k = inr refl
+one_test false k = inl refl
+
 open_or_not : (h : HeldList) → (open_hold h ≡ Fine) ⊎ (open_hold h ≡ Declined OpenHold)
-unfolding open_hold
-open_or_not h = first_either (judge_hold h) OpenHold (λ i. go i (ℕ_discrete (hold_at h i) 0)) 0 (used h.list) where
-  go : (i : ℕ) → Dec (hold_at h i ≡ 0) → (judge_hold h i ≡ Fine) ⊎ (judge_hold h i ≡ Declined OpenHold)
-  go i (yes q) = inl (hold_closed h i q)
-  go i (no q) = inr (hold_open h i q)
+unfolding open_hold judge_hold
+open_or_not h = first_either (judge_hold h) OpenHold (λ i. one_test (not (eqb (hold_at h i) 0)) OpenHold) 0 (used h.list)
 
 -- all open holds
 abbrev hold_weight : Weight

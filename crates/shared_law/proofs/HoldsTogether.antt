@@ -5,8 +5,7 @@ use mathlib.Core.Path.{◌≡◌, refl}
 use mathlib.Core.List.{[]}
 use borrow.Author.Tests.{lt-ltb}
 use Rattle.words.specs.Outcomes.{outcome}
-use Rattle.words.specs.declared.Judgement.{Judgement}
-use Rattle.words.specs.declared.Judgement.TheVariants.{Fine, Declined}
+use Rattle.words.specs.Refusals.{Judgement, Fine, Declined}
 use Rattle.list.specs.Lists.{used, multiplicity_at, entry_at}
 use Rattle.list.specs.Holds.{HeldList, hold_at}
 use Rattle.list.proofs.HeldLists.{held_shape_fine}

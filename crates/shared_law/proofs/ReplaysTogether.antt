@@ -9,10 +9,9 @@ use native.Mathlib.Omega.{arith}
 use lib.Dec.{eqb}
 use lib.ListN.{length}
 use borrow.Author.Tests.{eqb-true, eqb-false}
+use Rattle.std.specs.Prelude.{Ok, Err}
 use Rattle.words.specs.Outcomes.{Outcome}
-use Rattle.words.specs.Refusals.{refusal_number, decline_if}
-use Rattle.words.specs.declared.Judgement.{Judgement}
-use Rattle.words.specs.declared.Judgement.TheVariants.{Fine, Declined}
+use Rattle.words.specs.Refusals.{refusal_number, decline_if, Judgement, Fine, Declined}
 use Rattle.words.specs.declared.Refusal.TheVariants.{Shape, ListFull}
 use Rattle.words.proofs.Judgements.{or_next}
 use Rattle.isa.specs.declared.U32TableEntry.{U32TableEntry}
@@ -20,9 +19,9 @@ use Rattle.list.specs.Holds.{HeldList, held_shape}
 use Rattle.list.proofs.HeldLists.{held_shape_fine}
 use Rattle.list_record.specs.Recording.{record_all, record_each}
 use Rattle.list_record.proofs.RecordEach.{number_of, each_accepted, each_refused}
-use Rattle.list_replay.specs.declared.StepEntries.{StepEntries}
-use Rattle.list_replay.specs.declared.StepEntries.TheVariants.{One, Two, Refused}
-use Rattle.list_replay.specs.Steps.{Step, step_width, step_at, step_entries}
+use Rattle.list_replay.specs.declared.Step.{Step}
+use Rattle.list_replay.specs.declared.StepEntries.TheVariants.{One, Two}
+use Rattle.list_replay.specs.Steps.{step_width, step_at, Entries, step_entries}
 use Rattle.list_replay.specs.Replay.{record_together, step_as, step_all, stopped_at, replay_from, replay_reason, replayed_as, replay_all}
 use Rattle.list_replay.proofs.Walks.{together_each, together_number, together_left, from_accepted, from_refused}
 use Rattle.shared_law.proofs.Together.{Matched, Joined, joined_stay, joined_then, record_together_lem}
@@ -82,10 +81,10 @@ pair_together S O es m n = go (eqb (number_of (record_each S es)) 0) refl where
 step_together : (S O : HeldList) (s : Step) → Matched S O → number_of (step_all S s) ≢ full → Joined S O (step_all S s) (step_all O s)
 unfolding step_all
 step_together S O s m n = go (step_entries s) n where
-  go : (es : StepEntries) → number_of (step_as S es) ≢ full → Joined S O (step_as S es) (step_as O es)
-  go (One e) n = pair_together S O (e ∷ []) m n
-  go (Two e f) n = pair_together S O (e ∷ f ∷ []) m n
-  go (Refused k) n = joined_stay (step_as S (Refused k)) (step_as O (Refused k)) refl refl refl m
+  go : (es : Entries) → number_of (step_as S es) ≢ full → Joined S O (step_as S es) (step_as O es)
+  go (Ok (One e)) n = pair_together S O (e ∷ []) m n
+  go (Ok (Two e f)) n = pair_together S O (e ∷ f ∷ []) m n
+  go (Err k) n = joined_stay (step_as S (Err k)) (step_as O (Err k)) refl refl refl m
 
 -- ---- a walk
 

@@ -13,8 +13,7 @@ use lib.Seq.{sets, length-sets}
 use borrow.Author.Tests.{eqb-true, eqb-false, eq-eqb}
 use Rattle.words.specs.Limits.{multiplicity_limit}
 use Rattle.words.specs.Outcomes.{Outcome, outcome}
-use Rattle.words.specs.declared.Judgement.{Judgement}
-use Rattle.words.specs.declared.Judgement.TheVariants.{Fine, Declined}
+use Rattle.words.specs.Refusals.{Judgement, Fine, Declined}
 use Rattle.words.specs.declared.Refusal.TheVariants.{Shape}
 use Rattle.words.proofs.Judgements.{decline_not_true}
 use Rattle.words.proofs.Sets.{get_d_sets_below, get_d_sets_in}

@@ -10,9 +10,7 @@ use borrow.Author.Tests.{ltb-true, ltb-false}
 use Rattle.words.specs.Limits.{multiplicity_limit}
 use Rattle.words.specs.Answers.{done, declined}
 use Rattle.words.specs.Outcomes.{Outcome, outcome}
-use Rattle.words.specs.Refusals.{decline_if}
-use Rattle.words.specs.declared.Judgement.{Judgement}
-use Rattle.words.specs.declared.Judgement.TheVariants.{Fine, Declined}
+use Rattle.words.specs.Refusals.{decline_if, Judgement, Fine, Declined}
 use Rattle.words.specs.declared.Refusal.TheVariants.{CountFull, ListFull}
 use Rattle.isa.specs.declared.U32TableEntry.{U32TableEntry}
 use Rattle.isa.specs.Entries.{judge_entry, admitted}

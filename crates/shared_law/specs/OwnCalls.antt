@@ -1,7 +1,7 @@
 -- The laws of requests 6 and 2 (request 11: "The laws of slips 2 and 6 are now said of each pad and its own calls"): of a recorder on the shared list, over any
 -- calls of both, at any positions, whether some met "list full" or not (proofs/OwnLaws.antt).
 use Rattle.std.specs.Prelude.{ℕ, ◌<◌, ◌≡◌, cond, List, [], ◌∷◌, ◌++◌}
-use Rattle.words.specs.declared.Judgement.TheVariants.{Fine}
+use Rattle.words.specs.Refusals.{Fine}
 use Rattle.isa.specs.declared.U32TableEntry.{U32TableEntry}
 use Rattle.list.specs.Lists.{used, multiplicity_at, entry_at}
 use Rattle.list.specs.Heights.{list_height}

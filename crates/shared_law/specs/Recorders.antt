@@ -2,7 +2,7 @@
 -- other, in any order.
 use Rattle.std.specs.Prelude.{ℕ, ◌≡◌, List, [], ◌∷◌}
 use Rattle.words.specs.Outcomes.{Outcome}
-use Rattle.words.specs.declared.Judgement.TheVariants.{Fine}
+use Rattle.words.specs.Refusals.{Fine}
 use Rattle.list.specs.declared.Sizes.{Sizes}
 use Rattle.list.specs.Holds.{HeldList, held_list, held_shape}
 use Rattle.list_record.specs.Holding.{confirm_all, drop_all}

@@ -1,26 +1,14 @@
--- Counts of bytes that were read or written, within the bytes that were lent. No contract can say which bytes a read or a write moves.
-use Rattle.std.specs.Prelude.{ℕ, ◌≤◌, List, length}
+-- What a reading leaves: a count of bytes within those that were lent, and the bytes that it took. Which bytes standard input has no contract can say;
+-- of a reader whose bytes are known it is said here.
+use Rattle.std.specs.Prelude.{ℕ, ◌<◌, List, length, take, Result, IfOk}
+use Rattle.std.specs.declared.option.Option.{Option}
+use Rattle.std.specs.Io.KnownBytes.{Consumes, IsAtEnd}
 use Rattle.io.specs.Counts.{IsPrefixLen}
-use Rattle.streams.specs.declared.Got.{Got}
-use Rattle.streams.specs.declared.Got.TheVariants.{Bytes, Again, Failed}
-use Rattle.streams.specs.declared.Reached.{Reached}
-use Rattle.streams.specs.declared.Reached.TheVariants.{At, End, Failed as ReachedFailed}
-use Rattle.streams.specs.declared.Filled.{Filled}
-use Rattle.streams.specs.declared.Filled.TheVariants.{Bytes as FilledBytes, Failed as FilledFailed}
 
--- of one call
-abbrev pub GotIn : Got → List ℕ → Type 0
-GotIn (Bytes n) bytes = n ≤ length bytes
-GotIn Again bytes = Unit
-GotIn Failed bytes = Unit
+-- the count is within the bytes
+abbrev pub FilledIn : {E : Type 0} → Result ℕ E → List ℕ → Type 0
+FilledIn r bytes = IfOk r (λ n. IsPrefixLen n bytes)
 
--- after some calls
-abbrev pub ReachedIn : Reached → List ℕ → Type 0
-ReachedIn (At n) bytes = n ≤ length bytes
-ReachedIn End bytes = Unit
-ReachedIn ReachedFailed bytes = Unit
-
--- after all
-abbrev pub FilledIn : Filled → List ℕ → Type 0
-FilledIn (FilledBytes n) bytes = IsPrefixLen n bytes
-FilledIn FilledFailed bytes = Unit
+-- so many bytes of the reader's were taken, in order, and where they are fewer than there was room for, none is left
+abbrev pub TakenFrom : {E : Type 0} → (before after : Option (List ℕ)) → Result ℕ E → List ℕ → Type 0
+TakenFrom before after r bytes = IfOk r (λ n. Consumes before after (take n bytes) × (n < length bytes → IsAtEnd after))

@@ -2,170 +2,79 @@
 // error. Lines of a program's own for standard error.
 #![tactic(auto)]
 
-ghost use Rattle.std.specs.Prelude.{◌≤◌, length};
-ghost use Rattle.streams.specs.Streams.{GotIn, ReachedIn, FilledIn};
+ghost use Rattle.std.specs.Prelude.{OnOk};
+ghost use Rattle.std.specs.Io.KnownBytes.{Appends};
+ghost use Rattle.streams.specs.Streams.{FilledIn, TakenFrom};
 
+use std::fmt;
+use std::fmt::{Display, Formatter};
 use std::io::{Cursor, Error, ErrorKind, Read, Write};
 
-// No program makes so many calls: the loops end.
+// No program makes so many calls: the loop ends.
 const MOST_CALLS: u64 = 1152921504606846976;
 
-// What one call did.
+// Which of the two could not be read or written, and why.
 #[derive(Clone, Copy)]
-enum Got {
-    Bytes(usize),
-    // Nothing: it was interrupted.
-    Again,
-    // Nothing: the line is on standard error.
-    Failed,
+pub enum Failure {
+    Input(Error),
+    Output(Error),
 }
 
-// How far the bytes are read or written.
-#[derive(Clone, Copy)]
-enum Reached {
-    At(usize),
-    // No more follow.
-    End,
-    Failed,
-}
-
-// How many bytes were read.
-#[derive(Clone, Copy)]
-pub enum Filled {
-    Bytes(usize),
-    // Not all could be read: the line is on standard error.
-    Failed,
-}
-
-// An error's text as the system has it: std appends its number, in parentheses.
-fn reason(text: &[u8]) -> &[u8] {
-    match text.iter().rposition(|b| *b == b'(') {
-        Some(at) => {
-            if 0 < at {
-                return &text[..at - 1];
-            }
-            text
-        }
-        None => text,
+impl Display for Failure {
+    // What failed, a colon and the system's text: std appends its number, in parentheses.
+    fn fmt<W: fmt::Write>(&self, f: &mut Formatter<W>) -> fmt::Result {
+        let (what, error) = match self {
+            Failure::Input(error) => ("standard input", error),
+            Failure::Output(error) => ("standard output", error),
+        };
+        let mut text = Cursor::new([0u8; 256]);
+        let _ = write!(text, "{error}");
+        let length = text.position() as usize;
+        let bytes = text.into_inner();
+        let whole = bytes
+            .get(..length)
+            .and_then(|part| std::str::from_utf8(part).ok())
+            .unwrap_or("");
+        let reason = whole.rsplit_once(" (").map_or(whole, |(reason, _)| reason);
+        write!(f, "{what}: {reason}")
     }
 }
 
-// Writes a line to standard error: what failed, a colon and the system's text.
-fn fail(rt: &HostRuntime, what: &[u8], error: &Error) {
-    let mut text = Cursor::new([0u8; 256]);
-    let _ = write!(text, "{error}");
-    let n = text.position();
-    let bytes = text.into_inner();
-    write_error(rt, what);
-    write_error(rt, b": ");
-    if n <= 256 {
-        write_error(rt, reason(&bytes[..n as usize]));
-    }
-    write_error(rt, b"\n");
-}
-
-// One read. std does not make an interrupted call again here.
-fn read_part(rt: &HostRuntime, part: &mut [u8]) -> Got
-    ensures { GotIn result part.new }
-{
-    match rt.stdin().read(part) {
-        Ok(n) => Got::Bytes(n),
-        Err(error) => {
-            if error.kind() == ErrorKind::Interrupted {
-                return Got::Again;
-            }
-            fail(rt, b"standard input", &error);
-            Got::Failed
-        }
-    }
-}
-
-// One write, likewise.
-fn write_part(rt: &HostRuntime, part: &[u8]) -> Got
-    ensures { GotIn result part.now }
-{
-    match rt.stdout().write(part) {
-        Ok(n) => Got::Bytes(n),
-        Err(error) => {
-            if error.kind() == ErrorKind::Interrupted {
-                return Got::Again;
-            }
-            fail(rt, b"standard output", &error);
-            Got::Failed
-        }
-    }
-}
-
-// One read of what follows the bytes that are there.
-fn read_more(rt: &HostRuntime, buf: &mut [u8], done: usize) -> Reached
-    requires { done ≤ length buf.old }
-    ensures { ReachedIn result buf.new }
-{
-    if done == buf.len() {
-        return Reached::End;
-    }
-    match read_part(rt, &mut buf[done..]) {
-        Got::Bytes(n) => {
-            if n == 0 {
-                return Reached::End;
-            }
-            Reached::At(done + n)
-        }
-        Got::Again => Reached::At(done),
-        Got::Failed => Reached::Failed,
-    }
-}
-
-// One write of what follows the bytes that are written.
-fn write_more(rt: &HostRuntime, bytes: &[u8], done: usize) -> Reached
-    requires { done ≤ length bytes.now }
-    ensures { ReachedIn result bytes.now }
-{
-    if done == bytes.len() {
-        return Reached::End;
-    }
-    match write_part(rt, &bytes[done..]) {
-        Got::Bytes(n) => Reached::At(done + n),
-        Got::Again => Reached::At(done),
-        Got::Failed => Reached::Failed,
-    }
-}
-
-// Reads standard input until the buffer is full or the input ends.
-pub fn read_full(rt: &HostRuntime, buf: &mut [u8]) -> Filled
-    ensures { FilledIn result buf.new }
+// Reads until the buffer is full or the input ends.
+pub fn read_full<R: Read>(input: &mut R, buf: &mut [u8]) -> Result<usize, Failure>
+    ensures within { FilledIn result buf.new }
+    ensures bytes { TakenFrom (R.remaining input.old) (R.remaining input.new) result buf.new }
 {
     let mut done: usize = 0;
-    let mut calls = MOST_CALLS;
-    while 0 < calls {
-        calls -= 1;
-        let reached = read_more(rt, buf, done);
-        match reached {
-            Reached::At(next) => done = next,
-            Reached::End => return Filled::Bytes(done),
-            Reached::Failed => return Filled::Failed,
+    for _ in 0..MOST_CALLS {
+        if done == buf.len() {
+            return Ok(done);
+        }
+        match input.read(&mut buf[done..]) {
+            Ok(0) => return Ok(done),
+            Ok(n) => done += n,
+            // std does not make an interrupted call again here.
+            Err(error) if error.kind() == ErrorKind::Interrupted => {}
+            Err(error) => return Err(Failure::Input(error)),
         }
     }
-    Filled::Failed
+    Err(Failure::Input(Error::from(ErrorKind::TimedOut)))
 }
 
-// Writes all of the bytes to standard output, or says that they could not be written.
-pub fn write_all(rt: &HostRuntime, bytes: &[u8]) {
-    let mut done: usize = 0;
-    let mut calls = MOST_CALLS;
-    while 0 < calls {
-        calls -= 1;
-        let reached = write_more(rt, bytes, done);
-        match reached {
-            Reached::At(next) => done = next,
-            Reached::End => return,
-            Reached::Failed => return,
-        }
-    }
+// Writes all of the bytes. std makes an interrupted call again.
+pub fn write_all<W: Write>(output: &mut W, bytes: &[u8]) -> Result<(), Failure>
+    ensures { OnOk result (Appends (W.contents output.old) (W.contents output.new) bytes.now) }
+{
+    output.write_all(bytes).map_err(Failure::Output)
+}
+
+// Says on standard error, in a line, what failed. Where that fails, there is no place left to say so.
+pub fn tell<W: Write>(errors: &mut W, failure: &Failure) {
+    let _ = writeln!(errors, "{failure}");
 }
 
 // Writes a line to standard error. Where that fails, there is no place left to say so.
 // std makes an interrupted call again.
-pub fn write_error(rt: &HostRuntime, line: &[u8]) {
-    let _ = Print::write_all(&rt.stderr(), line);
+pub fn write_error<W: Write>(errors: &mut W, line: &[u8]) {
+    let _ = errors.write_all(line);
 }

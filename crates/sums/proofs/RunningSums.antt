@@ -7,8 +7,9 @@ use native.Mathlib.Numerals.{add-one}
 use native.Mathlib.Omega.{arith}
 use lib.Dec.{eqb}
 use borrow.Author.Tests.{eq-eqb, ne_eqb}
-use Rattle.xfield.specs.Extension.{Ext, add_x, scale_x, Reduced}
+use Rattle.xfield.specs.Extension.{Ext, add_x, scale_x, Reduced, InverseOrZeroX}
 use Rattle.xfield.specs.Inverses.{inv_x}
+use Rattle.xfield.proofs.Inverses.{inv_x_only}
 use Rattle.xfield.proofs.Laws.{zero_x_reduced, add_x_reduced}
 use Rattle.sums.specs.RunningSum.{Summand, add_summand, running_sum}
 
@@ -20,6 +21,11 @@ adds_nothing sum s f = rw (ne_eqb s.flag 1 (omega arith))
 pub adds_share : (sum : Ext) (s : Summand) → s.flag ≡ 1 → add_summand sum s ≡ add_x sum (scale_x s.multiplicity (inv_x s.denominator))
 unfolding add_summand
 adds_share sum s f = rw (eq-eqb s.flag 1 f)
+
+-- as the code makes it, step by step
+pub share_added : (sum : Ext) (s : Summand) {m : ℕ} {d i product next : Ext} → s.flag ≡ 1 → s.multiplicity ≡ m → s.denominator ≡ d
+    → InverseOrZeroX d i → product ≡ scale_x m i → next ≡ add_x sum product → next ≡ add_summand sum s
+share_added sum s f m d i p e = let inverse = inv_x_only _ _ i in let whole = adds_share sum s f in cc
 
 -- ---- the sums
 module _ (s : ℕ → Summand) where

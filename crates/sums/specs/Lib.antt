@@ -1,2 +1,3 @@
 pub mod RunningSum
 pub mod LookupSum
+pub mod Shares

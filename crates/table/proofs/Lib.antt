@@ -2,3 +2,4 @@ pub mod Rows
 pub mod Denominators
 pub mod Shapes
 pub mod Tens
+pub mod Copies

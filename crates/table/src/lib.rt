@@ -3,6 +3,7 @@
 
 ghost use Rattle.std.specs.Prelude.{◌≡◌, true, ◌&&◌, ◌+◌, ◌*◌, ◌≤◌, length};
 ghost use Rattle.std.proofs.lemmas.List.Edits.{sets};
+ghost use Rattle.xfield.specs.Extension.{words_x};
 ghost use Rattle.xfield.specs.XFieldElements.{ext_of};
 ghost use Rattle.table.specs.Columns.{main_width, aux_width, row_at, element_at, aux_at, table_shape, aux_shape, all_reduced};
 ghost use Rattle.table.specs.Challenges.{challenge_words, challenges_of, challenges_shape, denominator};
@@ -14,64 +15,21 @@ use field::BFieldElement;
 use words::MAX_ROWS;
 use xfield::XFieldElement;
 
+// Every word is below p. `fold` with `&` takes half the time of `all`, which may leave at each word.
+pub fn all_reduced(words: &[u64]) -> bool
+    ensures { result ≡ all_reduced words.now }
+{
+    words
+        .iter()
+        .fold(true, |all, word| all & (*word < BFieldElement::P))
+}
+
 // Yes: the ten words from `at` on are below p.
 pub fn are_ten_reduced(words: &[u64], at: usize) -> bool
     requires { at + 10 ≤ length words.now }
     ensures { result ≡ true → TenBelow words.now at }
 {
-    if BFieldElement::P <= words[at] {
-        return false;
-    }
-    if BFieldElement::P <= words[at + 1] {
-        return false;
-    }
-    if BFieldElement::P <= words[at + 2] {
-        return false;
-    }
-    if BFieldElement::P <= words[at + 3] {
-        return false;
-    }
-    if BFieldElement::P <= words[at + 4] {
-        return false;
-    }
-    if BFieldElement::P <= words[at + 5] {
-        return false;
-    }
-    if BFieldElement::P <= words[at + 6] {
-        return false;
-    }
-    if BFieldElement::P <= words[at + 7] {
-        return false;
-    }
-    if BFieldElement::P <= words[at + 8] {
-        return false;
-    }
-    if BFieldElement::P <= words[at + 9] {
-        return false;
-    }
-    true
-}
-
-// Every word is below p: ten at a time, up to ten that get a no, or to the last ten; from there one by one.
-pub fn all_reduced(words: &[u64]) -> bool
-    ensures { result ≡ all_reduced words.now }
-{
-    let tens = words.len() / 10;
-    let mut ten = 0;
-    while ten < tens {
-        if !are_ten_reduced(words, 10 * ten) {
-            break;
-        }
-        ten += 1;
-    }
-    let mut i = 10 * ten;
-    while i < words.len() {
-        if BFieldElement::P <= words[i] {
-            return false;
-        }
-        i += 1;
-    }
-    true
+    all_reduced(&words[at..at + 10])
 }
 
 // A row of the main table: its ten columns.
@@ -93,6 +51,7 @@ impl MainRow {
     pub const WIDTH: usize = 10;
 
     // A table of whole rows, and not too many.
+    #[tactic(auto, unfolding(crate::specs::Columns::table_shape))]
     pub fn has_shape(table: &[u64]) -> bool
         ensures { result ≡ table_shape table.now }
     {
@@ -100,6 +59,7 @@ impl MainRow {
     }
 
     // Row i of a table's words.
+    #[tactic(auto, unfolding(crate::specs::Columns::row_at, crate::specs::Layouts::row_of))]
     pub fn at(table: &[u64], i: usize) -> Self
         requires { main_width * i + main_width ≤ length table.now }
         ensures { row_of result ≡ row_at table.now i }
@@ -120,6 +80,7 @@ impl MainRow {
     }
 
     // The row's words, in the order of the columns.
+    #[tactic(auto, unfolding(crate::specs::Layouts::row_of))]
     pub fn words(self) -> [u64; MainRow::WIDTH]
         ensures { result ≡ row_words (row_of self) }
     {
@@ -142,17 +103,13 @@ impl MainRow {
         requires { main_width * i + main_width ≤ length table.old }
         ensures { table.new ≡ sets table.old (main_width * i) (row_words (row_of self)) }
     {
-        let words = self.words();
         let k = Self::WIDTH * i;
-        let mut column = 0;
-        while column < Self::WIDTH {
-            table[k + column] = words[column];
-            column += 1;
-        }
+        table[k..k + Self::WIDTH].copy_from_slice(&self.words());
     }
 }
 
 // Element i of words that hold extension elements.
+#[tactic(auto, unfolding(crate::specs::Columns::element_at))]
 pub fn element_at(words: &[u64], i: usize) -> XFieldElement
     requires { 3 * i + 3 ≤ length words.now }
     ensures { ext_of result ≡ element_at words.now i }
@@ -165,6 +122,15 @@ pub fn element_at(words: &[u64], i: usize) -> XFieldElement
     )
 }
 
+// Stores an extension element as element i of such words.
+pub fn put_element(words: &mut [u64], i: usize, element: XFieldElement)
+    requires { 3 * i + 3 ≤ length words.old }
+    ensures { words.new ≡ sets words.old (3 * i) (words_x (ext_of element)) }
+{
+    let at = XFieldElement::WIDTH * i;
+    words[at..at + XFieldElement::WIDTH].copy_from_slice(&element.words());
+}
+
 // A row of the aux table: the sum so far, in one column of an extension element.
 #[derive(Clone, Copy)]
 pub struct AuxRow {
@@ -175,7 +141,8 @@ impl AuxRow {
     pub const WIDTH: usize = XFieldElement::WIDTH;
 
     // As many rows as the table has.
-    fn has_shape(table: &[u64], aux: &[u64]) -> bool
+    #[tactic(auto, unfolding(crate::specs::Columns::aux_shape))]
+    pub fn has_shape(table: &[u64], aux: &[u64]) -> bool
         ensures { result ≡ aux_shape table.now aux.now }
     {
         aux.len() == Self::WIDTH * (table.len() / MainRow::WIDTH)
@@ -205,12 +172,14 @@ pub struct Challenges {
 impl Challenges {
     pub const WIDTH: usize = 5 * XFieldElement::WIDTH;
 
+    #[tactic(auto, unfolding(crate::specs::Challenges::challenges_shape))]
     pub fn has_shape(words: &[u64]) -> bool
         ensures { result ≡ challenges_shape words.now }
     {
         words.len() == Self::WIDTH
     }
 
+    #[tactic(auto, unfolding(crate::specs::Challenges::challenges_of))]
     pub fn from_words(words: &[u64]) -> Self
         requires { challenge_words ≤ length words.now }
         ensures { challenges_in result ≡ challenges_of words.now }
@@ -225,6 +194,7 @@ impl Challenges {
     }
 
     // U32Indeterminate minus the compressed row of four words.
+    #[tactic(auto, unfolding(crate::specs::Challenges::denominator, crate::specs::Challenges::compressed_row))]
     pub fn denominator(
         self,
         lhs: BFieldElement,
@@ -234,13 +204,11 @@ impl Challenges {
     ) -> XFieldElement
         ensures { ext_of result ≡ denominator (challenges_in self) lhs.0 rhs.0 ci.0 res.0 }
     {
-        let compressed_row = self
-            .u32_lhs_weight
-            .scale(lhs)
-            .add(self.u32_rhs_weight.scale(rhs))
-            .add(self.u32_ci_weight.scale(ci))
-            .add(self.u32_result_weight.scale(res));
-        self.u32_indeterminate.sub(compressed_row)
+        let compressed_row = self.u32_lhs_weight * lhs
+            + self.u32_rhs_weight * rhs
+            + self.u32_ci_weight * ci
+            + self.u32_result_weight * res;
+        self.u32_indeterminate - compressed_row
     }
 }
 

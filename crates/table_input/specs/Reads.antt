@@ -1,15 +1,8 @@
--- The numbers that are due have places among the lent words, however far a text is read.
-use Rattle.table_text.specs.TableText.{Within}
-use Rattle.table_input.specs.declared.Fed.{Fed}
-use Rattle.table_input.specs.declared.Fed.TheVariants.{More, Last, Failed}
-use Rattle.table_input.specs.declared.Whole.{Whole}
-use Rattle.table_input.specs.declared.Whole.TheVariants.{Text, Failed as ReadFailed}
+-- The numbers of a sheet have places among the lent words, once its text is read.
+use Rattle.std.specs.Prelude.{Result, IfOk}
+use Rattle.numbers.specs.declared.Fault.{Fault}
+use Rattle.numbers.specs.declared.Reader.{Reader}
+use Rattle.numbers.specs.Sheets.{Within}
 
-abbrev pub FedWithin : Fed → Type 0
-FedWithin (More stage) = Within stage
-FedWithin (Last stage) = Within stage
-FedWithin Failed = Unit
-
-abbrev pub ReadWithin : Whole → Type 0
-ReadWithin (Text stage) = Within stage
-ReadWithin ReadFailed = Unit
+abbrev pub ReadWithin : {S E : Type 0} → (S → Type 0) → Result (Result (Reader S) Fault) E → Type 0
+ReadWithin fits r = IfOk r (Within fits)

@@ -2,7 +2,6 @@
 -- the words. By induction on the text's bytes. With numbers/proofs/Printed.antt: what is printed is taken. Assumes nothing.
 use Prim.Native.Nat.{ℕ, suc, ◌+◌, ◌*◌, ◌-◌, ◌/◌, ◌≤◌, ◌<◌}
 use mathlib.Core.Path.{◌≡◌, refl, ap, ◌∙◌}
-use mathlib.Core.Bool.{Bool, true, false, cond}
 use mathlib.Core.List.{List, [], ◌∷◌}
 use native.Mathlib.Numerals.{add-one}
 use native.Mathlib.Omega.{arith}
@@ -11,13 +10,10 @@ use lib.ListN.{set}
 use lib.Seq.{sets}
 use Rattle.numbers.specs.declared.Place.{Place}
 use Rattle.numbers.specs.declared.Step.{Step}
-use Rattle.numbers.specs.declared.Step.TheVariants.{On, Number, Fault}
-use Rattle.numbers.specs.Numbers.{start_place, step_of, Reading, numbers, fault, before, read_after, read_from, read_text}
-use Rattle.table_text.specs.declared.Reader.{Reader}
-use Rattle.table_text.specs.declared.Stage.{Stage}
-use Rattle.table_text.specs.declared.Stage.TheVariants.{Reading as AtWork}
-use Rattle.table_text.specs.declared.Taken.TheVariants.{Rows}
-use Rattle.table_text.specs.TableText.{rows_at, head_numbers, most_rows, Fed, fed, start_stage, take_number, after_step, feed_all, end_number, taken_of}
+use Rattle.std.specs.Prelude.{Option, None, Some, Result, Ok, Err, option_to_list}
+use Rattle.numbers.specs.Numbers.{start_place, step_of, Reading, numbers, fault, before, before_if, read_after, read_from, read_text}
+use Rattle.numbers.specs.Sheets as sheets
+use Rattle.table_text.specs.TableText.{rows_at, head_numbers, most_rows, Stage, Fed, sheet, start_stage, take_number, takes, feed_all, end_number, taken_of}
 
 -- the numbers that follow, where `count` of `due` were read, make a table of so many rows
 pub data Completes : (count due : ℕ) → List ℕ → (rows : ℕ) → Type 0 where
@@ -32,20 +28,23 @@ finished stage text words = end_number (feed_all stage text words).stage (feed_a
 
 -- it is a table of so many rows, and these are the words
 pub record TakenAs (k : ℕ) (due : List ℕ) (f : Fed) : Type 0 where
-  pub taken : taken_of f.stage ≡ Rows k
+  pub taken : taken_of f.stage ≡ Ok k
   pub words : f.words ≡ due
 
-abbrev reader : Place → (count due : ℕ) → Reader
-reader p count due = record { place = p; count = count; due = due }
+abbrev at_work : Place → (count due : ℕ) → Stage
+at_work p count due = Ok (sheets.reader p (sheet count due))
 
-module _ (p : Place) (n count due : ℕ) (words : List ℕ) where
-  take_word : count < due → (count ≡ rows_at → ⊥)
-      → take_number p count due n words ≡ fed (AtWork (reader p (count + 1) due)) (set words count n)
+-- a number that ended at this place is taken
+abbrev number_fed : Place → (n count due : ℕ) → (words : List ℕ) → Fed
+number_fed p n count due words = sheets.take_ended takes p (Some n) (sheet count due) words
+
+module _ (line n count due : ℕ) (words : List ℕ) where
+  take_word : count < due → (count ≡ rows_at → ⊥) → take_number line count due n words ≡ sheets.fed (Ok (sheet (count + 1) due)) (set words count n)
   unfolding take_number
   take_word m e = rw (lt-leb due count m, ne_eqb count rows_at e)
 
   take_rows : count ≡ rows_at → count < due → n ≤ most_rows
-      → take_number p count due n words ≡ fed (AtWork (reader p head_numbers (head_numbers + 10 * n))) (set words count n)
+      → take_number line count due n words ≡ sheets.fed (Ok (sheet head_numbers (head_numbers + 10 * n))) (set words count n)
   unfolding take_number
   take_rows e m h = rw (lt-leb due count m, eq-eqb count rows_at e, le-ltb most_rows n h)
 
@@ -58,68 +57,73 @@ no_fault e = let z : ◌≡◌ {A = ℕ} 0 1 = cc in omega arith
 
 -- ---- the end of the text
 module _ (p : Place) (k : ℕ) (words : List ℕ) where
-  all_taken : (count due : ℕ) → count ≡ due → head_numbers ≤ due → (due - head_numbers) / 10 ≡ k → TakenAs k words (fed (AtWork (reader p count due)) words)
+  all_taken : (count due : ℕ) → count ≡ due → head_numbers ≤ due → (due - head_numbers) / 10 ≡ k → TakenAs k words (sheets.fed (at_work p count due) words)
   all_taken count due c h e = record { taken = rw (le-leb due count (omega arith), le-leb head_numbers due h, e); words = refl }
 
-  none_left : (count due : ℕ) → Completes count due [] k → TakenAs k words (fed (AtWork (reader p count due)) words)
+  none_left : (count due : ℕ) → Completes count due [] k → TakenAs k words (sheets.fed (at_work p count due) words)
   none_left count due (over c h e) = all_taken count due c h e
 
 -- a number that the end of the text ends is the last
 last_taken : (p : Place) (n count due k : ℕ) (words : List ℕ) → Completes count due (n ∷ []) k
-    → TakenAs k (set words count n) (take_number p count due n words)
+    → TakenAs k (set words count n) (number_fed p n count due words)
 last_taken p n count due k words (word m e c) =
-    rw (take_word p n count due words m e) (none_left p k (set words count n) (count + 1) due c)
+    rw (take_word p.line n count due words m e) (none_left p k (set words count n) (count + 1) due c)
 last_taken p n count due k words (rows e m h c) =
-    rw (take_rows p n count due words e m h) (none_left p k (set words count n) head_numbers (head_numbers + 10 * n) c)
+    rw (take_rows p.line n count due words e m h) (none_left p k (set words count n) head_numbers (head_numbers + 10 * n) c)
 
-end_taken : (p : Place) (count due k : ℕ) (ns words : List ℕ) (b : Bool) → cond b (numbers (p.value ∷ [])) (numbers []) ≡ numbers ns
-    → Completes count due ns k
-    → TakenAs k (sets words count ns) (cond b (take_number p count due p.value words) (fed (AtWork (reader p count due)) words))
+end_taken : (p : Place) (count due k : ℕ) (ns words : List ℕ) (number : Option ℕ) → numbers (option_to_list number) ≡ numbers ns
+    → Completes count due ns k → TakenAs k (sets words count ns) (sheets.take_ended takes p number (sheet count due) words)
 unfolding numbers_in
-end_taken p count due k ns words true e c =
-    let q : p.value ∷ [] ≡ ns = ap numbers_in e in
-    rw (← q) (last_taken p p.value count due k words (rw (← q) at c))
-end_taken p count due k ns words false e c =
+end_taken p count due k ns words (Some n) e c =
+    let q : n ∷ [] ≡ ns = ap numbers_in e in
+    rw (← q) (last_taken p n count due k words (rw (← q) at c))
+end_taken p count due k ns words None e c =
     let q : [] ≡ ns = ap numbers_in e in
     rw (← q) (none_left p k words count due (rw (← q) at c))
 
 -- ---- one byte more
 abbrev Takes : (k : ℕ) (text : List ℕ) → Type 0
 Takes k text = (p : Place) (count due : ℕ) (ns words : List ℕ) → read_from p text ≡ numbers ns → Completes count due ns k
-    → TakenAs k (sets words count ns) (finished (AtWork (reader p count due)) text words)
+    → TakenAs k (sets words count ns) (finished (at_work p count due) text words)
 
-module _ (k : ℕ) (text : List ℕ) (takes : Takes k text) (q : Place) (n count due : ℕ) (words : List ℕ) where
+module _ (k : ℕ) (text : List ℕ) (t : Takes k text) (q : Place) (n count due : ℕ) (words : List ℕ) where
   number_taken : (ns : List ℕ) → read_from q text ≡ numbers ns → Completes count due (n ∷ ns) k
-      → TakenAs k (sets words count (n ∷ ns)) (finished (take_number q count due n words).stage text (take_number q count due n words).words)
+      → TakenAs k (sets words count (n ∷ ns)) (finished (number_fed q n count due words).stage text (number_fed q n count due words).words)
   number_taken ns e (word m d c) =
-      let t = takes q (count + 1) due ns (set words count n) e c in
-      rw (take_word q n count due words m d) (record { taken = t.taken; words = t.words ∙ rw (add-one count) })
+      let w = t q (count + 1) due ns (set words count n) e c in
+      rw (take_word q.line n count due words m d) (record { taken = w.taken; words = w.words ∙ rw (add-one count) })
   number_taken ns e (rows d m h c) =
-      let t = takes q head_numbers (head_numbers + 10 * n) ns (set words count n) e c in
+      let w = t q head_numbers (head_numbers + 10 * n) ns (set words count n) e c in
       let s : suc count ≡ head_numbers = omega arith in
-      rw (take_rows q n count due words d m h) (record { taken = t.taken; words = t.words ∙ rw s })
+      rw (take_rows q.line n count due words d m h) (record { taken = w.taken; words = w.words ∙ rw s })
 
   before_taken : (ns : List ℕ) (x : Reading) → read_from q text ≡ x → before n x ≡ numbers ns → Completes count due ns k
-      → TakenAs k (sets words count ns) (finished (take_number q count due n words).stage text (take_number q count due n words).words)
+      → TakenAs k (sets words count ns) (finished (number_fed q n count due words).stage text (number_fed q n count due words).words)
   unfolding numbers_in
   before_taken ns (numbers ms) h e c =
       let z : n ∷ ms ≡ ns = ap numbers_in e in
       rw (← z) (number_taken ms h (rw (← z) at c))
   before_taken ns (fault line) h e c = absurd (no_fault e)
 
-step_taken : (k : ℕ) (text : List ℕ) → Takes k text → (p : Place) (count due : ℕ) (ns words : List ℕ) (s : Step)
+place_taken : (k : ℕ) (text : List ℕ) → Takes k text → (count due : ℕ) (ns words : List ℕ) (number : Option ℕ) (q : Place)
+    → before_if number (read_from q text) ≡ numbers ns → Completes count due ns k
+    → TakenAs k (sets words count ns)
+    (finished (sheets.take_ended takes q number (sheet count due) words).stage text (sheets.take_ended takes q number (sheet count due) words).words)
+place_taken k text t count due ns words None q e c = t q count due ns words e c
+place_taken k text t count due ns words (Some n) q e c = before_taken k text t q n count due words ns (read_from q text) refl e c
+
+step_taken : (k : ℕ) (text : List ℕ) → Takes k text → (count due : ℕ) (ns words : List ℕ) (s : Result Step ℕ)
     → read_after s (λ next. read_from next text) ≡ numbers ns → Completes count due ns k
     → TakenAs k (sets words count ns)
-    (finished (after_step (reader p count due) s words).stage text (after_step (reader p count due) s words).words)
-step_taken k text takes p count due ns words (On q) e c = takes q count due ns words e c
-step_taken k text takes p count due ns words (Number n q) e c = before_taken k text takes q n count due words ns (read_from q text) refl e c
-step_taken k text takes p count due ns words (Fault line) e c = absurd (no_fault e)
+    (finished (sheets.after_step takes (sheet count due) s words).stage text (sheets.after_step takes (sheet count due) s words).words)
+step_taken k text t count due ns words (Ok s) e c = place_taken k text t count due ns words s.number s.place e c
+step_taken k text t count due ns words (Err line) e c = absurd (no_fault e)
 
 -- ---- the whole text
 text_taken : (k : ℕ) (text : List ℕ) → Takes k text
-unfolding read_from feed_all
-text_taken k [] p count due ns words e c = end_taken p count due k ns words p.inside e c
-text_taken k (byte ∷ text) p count due ns words e c = step_taken k text (text_taken k text) p count due ns words (step_of p byte) e c
+unfolding read_from sheets.feed_all
+text_taken k [] p count due ns words e c = end_taken p count due k ns words p.number e c
+text_taken k (byte ∷ text) p count due ns words e c = step_taken k text (text_taken k text) count due ns words (step_of p byte) e c
 
 -- the text of a table of k rows is taken as this table, whatever the lent words held
 pub table_taken : (k : ℕ) (text ns words : List ℕ) → read_text text ≡ numbers ns → Completes 0 head_numbers ns k

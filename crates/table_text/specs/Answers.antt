@@ -1,14 +1,13 @@
 -- What `u32check` prints: the answer of extension and check on the table that a text has, or why it has none.
-use Rattle.std.specs.Prelude.{ℕ, ◌*◌, List, [], ◌∷◌, ◌++◌, take, drop}
+use Rattle.std.specs.Prelude.{ℕ, ◌*◌, List, [], ◌∷◌, ◌++◌, take, drop, Result, Ok, Err}
 use Rattle.air.specs.Check.{check_all}
 use Rattle.fill.specs.Extending.{extend_all}
 use Rattle.text.specs.Lines.{verdict_line, field_line, malformed_line, too_many_line}
 use Rattle.transcript.specs.Transcript.{unless_refused}
 use Rattle.names.specs.Names.{name_of}
-use Rattle.table_text.specs.TableText.{rows_at, head_numbers, most_rows, start_stage, feed_all, end_number, taken_of}
-use Rattle.table_text.specs.declared.Stage.{Stage}
-use Rattle.table_text.specs.declared.Taken.{Taken}
-use Rattle.table_text.specs.declared.Taken.TheVariants.{Rows, Malformed, TooMany}
+use Rattle.numbers.specs.declared.Fault.{Fault}
+use Rattle.numbers.specs.declared.Fault.TheVariants.{Malformed, TooMany}
+use Rattle.table_text.specs.TableText.{rows_at, head_numbers, most_rows, Stage, start_stage, feed_all, end_number, taken_of}
 
 -- the line before a verdict's: of a constraint that is not zero, its name
 abbrev pub name_line : (verdict : List ℕ) → List ℕ
@@ -28,10 +27,10 @@ verdict_text challenges table aux =
     unless_refused extension.answer (unless_refused verdict (verdict_lines verdict.values))
 
 -- a text's first fifteen numbers are the challenges, those after the number of rows are the table's, ten a row
-abbrev pub taken_text : Taken → (words aux : List ℕ) → List ℕ
-taken_text (Rows rows) words aux = verdict_text (take rows_at words) (take (10 * rows) (drop head_numbers words)) (take (3 * rows) aux)
-taken_text (Malformed line) words aux = malformed_line line
-taken_text (TooMany rows) words aux = too_many_line rows most_rows
+abbrev pub taken_text : Result ℕ Fault → (words aux : List ℕ) → List ℕ
+taken_text (Ok rows) words aux = verdict_text (take rows_at words) (take (10 * rows) (drop head_numbers words)) (take (3 * rows) aux)
+taken_text (Err (Malformed line)) words aux = malformed_line line
+taken_text (Err (TooMany rows)) words aux = too_many_line rows most_rows
 
 -- for a text that ended here
 unfoldable pub answer_text : Stage → (words aux : List ℕ) → List ℕ

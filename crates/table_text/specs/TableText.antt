@@ -1,15 +1,11 @@
 -- The text of a table: fifteen challenge words, the number of rows, and ten words a row, as numbers (crate numbers). It is read byte by byte;
 -- what speaks against it first counts.
-use Rattle.std.specs.Prelude.{ℕ, ◌+◌, ◌*◌, ◌-◌, ◌/◌, ◌≤◌, ◌≡◌, cond, ◌&&◌, List, [], ◌∷◌, eqb, ltb, leb, set}
-use Rattle.numbers.specs.Numbers.{start_place, step_of}
-use Rattle.numbers.specs.declared.Place.{Place}
-use Rattle.numbers.specs.declared.Step.{Step}
-use Rattle.numbers.specs.declared.Step.TheVariants.{On, Number, Fault}
-use Rattle.table_text.specs.declared.Reader.{Reader}
-use Rattle.table_text.specs.declared.Stage.{Stage}
-use Rattle.table_text.specs.declared.Stage.TheVariants.{Reading, Malformed, TooMany}
-use Rattle.table_text.specs.declared.Taken.{Taken}
-use Rattle.table_text.specs.declared.Taken.TheVariants.{Rows, Malformed as NotTaken, TooMany as TooManyRows}
+use Rattle.std.specs.Prelude.{ℕ, ◌+◌, ◌*◌, ◌-◌, ◌/◌, ◌≤◌, cond, ◌&&◌, List, eqb, ltb, leb, set, Result, Ok, Err}
+use Rattle.numbers.specs.declared.Fault.{Fault}
+use Rattle.numbers.specs.declared.Fault.TheVariants.{Malformed, TooMany}
+use Rattle.numbers.specs.declared.Reader.{Reader}
+use Rattle.numbers.specs.Sheets as sheets
+use Rattle.table_text.specs.declared.TableSheet.{TableSheet}
 
 -- fifteen challenge words stand before the number of rows
 abbrev pub rows_at : ℕ
@@ -27,66 +23,59 @@ most_rows = 16384
 abbrev pub max_words : ℕ
 max_words = head_numbers + 10 * most_rows
 
--- how far a text is read, and the lent words, which have its numbers at their places
-pub record Fed : Type 0 where
-  pub stage : Stage
-  pub words : List ℕ
+-- how far a text is read: so many numbers of so many that are due, or what speaks against it
+abbrev pub Stage : Type 0
+Stage = Result (Reader TableSheet) Fault
 
-abbrev pub fed : Stage → List ℕ → Fed
-fed stage words = record { stage = stage; words = words }
+-- the same, and the lent words, which have its numbers at their places
+abbrev pub Fed : Type 0
+Fed = sheets.Fed (Reader TableSheet)
+
+abbrev pub sheet : (count due : ℕ) → TableSheet
+sheet count due = record { count = count; due = due }
 
 -- before the first byte: no number of sixteen
 abbrev pub start_stage : Stage
-start_stage = Reading (record { place = start_place; count = 0; due = head_numbers })
+start_stage = Ok (sheets.start_reader (sheet 0 head_numbers))
 
--- one number more, which ended at this place: one too many is a fault on its line, and the number of rows says how many are due
-unfoldable pub take_number : Place → (count due value : ℕ) → (words : List ℕ) → Fed
-take_number place count due value words =
-    cond (leb due count) (fed (Malformed place.line) words)
+-- one number more, which ended on this line: one too many is a fault on its line, and the number of rows says how many are due
+unfoldable pub take_number : (line count due value : ℕ) → (words : List ℕ) → sheets.Fed TableSheet
+take_number line count due value words =
+    cond (leb due count) (sheets.fed (Err (Malformed line)) words)
     (cond (eqb count rows_at)
-    (cond (ltb most_rows value) (fed (TooMany value) words)
-    (fed (Reading (record { place = place; count = head_numbers; due = head_numbers + 10 * value })) (set words count value)))
-    (fed (Reading (record { place = place; count = count + 1; due = due })) (set words count value)))
+    (cond (ltb most_rows value) (sheets.fed (Err (TooMany value)) words)
+    (sheets.fed (Ok (sheet head_numbers (head_numbers + 10 * value))) (set words count value)))
+    (sheets.fed (Ok (sheet (count + 1) due)) (set words count value)))
 
-abbrev pub after_step : Reader → Step → (words : List ℕ) → Fed
-after_step r (On place) words = fed (Reading (record { place = place; count = r.count; due = r.due })) words
-after_step r (Number value place) words = take_number place r.count r.due value words
-after_step r (Fault line) words = fed (Malformed line) words
+abbrev pub takes : (line : ℕ) → TableSheet → (value : ℕ) → (words : List ℕ) → sheets.Fed TableSheet
+takes line s value words = take_number line s.count s.due value words
 
 -- one byte more; after a fault nothing is read
 abbrev pub feed_byte : Stage → (byte : ℕ) → (words : List ℕ) → Fed
-feed_byte (Reading r) byte words = after_step r (step_of r.place byte) words
-feed_byte (Malformed line) byte words = fed (Malformed line) words
-feed_byte (TooMany rows) byte words = fed (TooMany rows) words
+feed_byte = sheets.feed_byte takes
 
 -- some bytes more
-unfoldable pub feed_all : Stage → (text words : List ℕ) → Fed
-feed_all stage [] words = fed stage words
-feed_all stage (byte ∷ text) words = feed_all (feed_byte stage byte words).stage text (feed_byte stage byte words).words
+abbrev pub feed_all : Stage → (text words : List ℕ) → Fed
+feed_all = sheets.feed_all takes
 
 -- the end of the text ends a number too
 abbrev pub end_number : Stage → (words : List ℕ) → Fed
-end_number (Reading r) words =
-    cond r.place.inside (take_number r.place r.count r.due r.place.value words) (fed (Reading r) words)
-end_number (Malformed line) words = fed (Malformed line) words
-end_number (TooMany rows) words = fed (TooMany rows) words
+end_number = sheets.end_number takes
 
--- where all numbers that are due were read, the text is a table's; else it ends too early, on its last line
-abbrev pub taken_of : Stage → Taken
-taken_of (Reading r) =
-    cond (leb r.due r.count && leb head_numbers r.due) (Rows ((r.due - head_numbers) / 10)) (NotTaken r.place.line)
-taken_of (Malformed line) = NotTaken line
-taken_of (TooMany rows) = TooManyRows rows
+-- where all numbers that are due were read, the text is the table of so many rows; else it ends too early, on its last line
+abbrev pub taken_of : Stage → Result ℕ Fault
+taken_of (Ok r) =
+    cond (leb r.sheet.due r.sheet.count && leb head_numbers r.sheet.due) (Ok ((r.sheet.due - head_numbers) / 10)) (Err (Malformed r.place.line))
+taken_of (Err fault) = Err fault
 
 -- ---- the calls
 -- the numbers that are due have places among the lent words
+abbrev pub Fits : TableSheet → Type 0
+Fits s = s.due ≤ max_words
+
 abbrev pub Within : Stage → Type 0
-Within (Reading r) = r.due ≤ max_words
-Within (Malformed line) = Unit
-Within (TooMany rows) = Unit
+Within = sheets.Within Fits
 
 -- what a call that reads leaves
-pub record IsFed (due : Fed) (r : Stage) (after : List ℕ) : Type 0 where
-  pub stage : r ≡ due.stage
-  pub words : after ≡ due.words
-  pub within : Within r
+abbrev pub IsFed : (due : Fed) (r : Stage) (after : List ℕ) → Type 0
+IsFed = sheets.IsFed Fits

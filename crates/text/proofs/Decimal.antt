@@ -1,53 +1,52 @@
 -- What `decimal n` is, for every 64-bit n: at least 1 and at most 20 digits, each from `0` to `9`, the first no `0` where there are more,
 -- and read as a decimal number they are n (decimal_is). By induction on the digits, from the lowest to the highest. They are what
--- `io::decimal` makes (decimal_made). Assumes nothing.
+-- `{}` and `itoa` make (decimal_made). Assumes nothing.
 use Prim.Native.Nat.{ℕ, zero, suc, ◌+◌, ◌*◌, ◌-◌, ◌/◌, ◌%◌, ◌^◌, ◌≤◌, ◌<◌}
 use mathlib.Core.Path.{◌≡◌, refl, ◌∙◌}
 use mathlib.Core.Bool.{Bool, true, false, cond}
-use mathlib.Core.List.{List, [], ◌∷◌, ◌++◌}
-use native.Mathlib.Nat.{pow-suc, pow-le-pow_right, one-le-pow}
+use mathlib.Core.List.{List, [], ◌∷◌, ◌++◌, append-nil, append_assoc}
+use native.Mathlib.Nat.{pow-suc}
 use native.Mathlib.Omega.{arith}
-use borrow.Author.Tests.{lt-ltb, le-ltb, ltb-true, ltb-false}
+use borrow.Author.Tests.{lt-ltb, ltb-true, ltb-false, eq-eqb, ne_eqb}
 use lib.Dec.{ltb}
 use lib.ListN.{length, get_or, length-append, get_or-append}
-use Rattle.io.specs.Digits.{last_digits as digits, IsDigitCount, hex_digit_ascii}
+use Rattle.std.specs.Fmt.{digits, digits_onto, digit_glyph, decimal as printed}
 use Rattle.text.specs.Lines.{digits_of, decimal}
 
--- ---- as `io::decimal` makes them
+-- ---- as std and `itoa` make them
 
-glyph_digit : (d : ℕ) → d < 10 → hex_digit_ascii d ≡ 48 + d
-glyph_digit d h = rw (lt-ltb d 10 h)
-
-digits_made : (f k n : ℕ) → k ≤ f → IsDigitCount 10 1 n k → digits 10 k n ≡ digits_of f n
+-- the digits before some others, for a number of at most k
+onto_digits : (k f n : ℕ) (acc : List ℕ) → 1 ≤ k → k ≤ f → n < 10 ^ k → digits_onto f 10 false n acc ≡ digits_of k n ++ acc
 unfolding digits_of
-digits_made f zero n h (a, b, c) = absurd (let z : 1 ≤ 0 = a in omega arith)
-digits_made zero (suc k) n h w = absurd (let z = h in omega arith)
-digits_made (suc f) (suc zero) n h (a, b, c) =
-    let s : n < 10 = b in
-    rw (lt-ltb n 10 s, glyph_digit (n % 10) (omega arith))
-digits_made (suc f) (suc (suc k)) n h (a, b, c) =
-    let e : suc (suc k) - 1 ≡ suc k = omega arith in
-    let low : 10 ^ k * 10 ≤ n = rw (e, pow-suc) at (c (omega arith)) in
-    let high : n < 10 ^ suc k * 10 = rw pow-suc at b in
-    let g : suc k - 1 ≡ k = omega arith in
-    let one : 1 ≤ 10 ^ k = one-le-pow k 10 (omega arith) in
-    let ih = digits_made f (suc k) (n / 10) (omega arith) (omega arith, omega arith, λ _. rw g (omega arith)) in
-    rw (le-ltb n 10 (omega arith), ← ih, glyph_digit (n % 10) (omega arith))
+onto_digits zero f n acc one h low = absurd (omega arith)
+onto_digits (suc k) zero n acc one h low = absurd (omega arith)
+onto_digits (suc k) (suc f) n acc one h low = go (ltb n 10) refl (positive k high) (λ m. onto_digits k f (n / 10) ((48 + n % 10) ∷ acc) m (omega arith) (omega arith)) where
+  high : n < 10 ^ k * 10
+  high = rw pow-suc at low
 
--- the fewest digits that hold a 64-bit number are at most 20
-few_digits : (n k : ℕ) → n < 18446744073709551616 → IsDigitCount 10 1 n k → k ≤ 20
-few_digits n k h w = go (ltb 20 k) refl where
-  go : (t : Bool) → ltb 20 k ≡ t → k ≤ 20
-  go false e = ltb-false 20 k e
-  go true e =
-      let l : 20 < k = ltb-true 20 k e in
-      let a : 10 ^ (k - 1) ≤ n = w.2 (omega arith) in
-      let b : 10 ^ 20 ≤ 10 ^ (k - 1) = pow-le-pow_right {n = 10} (omega arith) {i = 20} {j = k - 1} (omega arith) in
-      absurd (omega arith)
+  glyph : digit_glyph false (n % 10) ≡ 48 + n % 10
+  glyph = rw (lt-ltb (n % 10) 10 (omega arith))
 
-pub decimal_made : (n k : ℕ) → n < 18446744073709551616 → IsDigitCount 10 1 n k → digits 10 k n ≡ decimal n
-unfolding decimal
-decimal_made n k h w = digits_made 20 k n (few_digits n k h w) w
+  positive : (k : ℕ) → n < 10 ^ k * 10 → 10 ≤ n → 1 ≤ k
+  positive zero g m = absurd (let z : n < 10 = g in omega arith)
+  positive (suc k) g m = omega arith
+
+  go : (t : Bool) → ltb n 10 ≡ t → (10 ≤ n → 1 ≤ k) → (1 ≤ k → digits_onto f 10 false (n / 10) ((48 + n % 10) ∷ acc) ≡ digits_of k (n / 10) ++ ((48 + n % 10) ∷ acc))
+      → digits_onto (suc f) 10 false n acc ≡ (cond t [] (digits_of k (n / 10)) ++ ((48 + n % 10) ∷ [])) ++ acc
+  go true e more ih =
+      let few : n < 10 = ltb-true n 10 e in
+      let none : n / 10 ≡ 0 = omega arith in
+      rw (eq-eqb (n / 10) 0 none, glyph)
+  go false e more ih =
+      let many : 10 ≤ n = ltb-false n 10 e in
+      let some : n / 10 ≡ 0 → ⊥ = λ z. omega arith in
+      rw (ne_eqb (n / 10) 0 some, glyph, append_assoc) (ih (more many))
+
+-- the text of `{}`
+pub decimal_made : (n : ℕ) → n < 18446744073709551616 → printed n ≡ decimal n
+unfolding decimal digits
+decimal_made n h =
+    onto_digits 20 64 n [] (omega arith) (omega arith) (omega arith) ∙ append-nil (digits_of 20 n)
 
 -- ---- what the digits are
 

@@ -1,3 +1,4 @@
 pub mod Decimal
 pub mod Lengths
 pub mod Putting
+pub mod Adding

@@ -10,8 +10,7 @@ use lib.Dec.{eqb, ltb}
 use lib.ListN.{length, drop, length-append}
 use Rattle.words.specs.Answers.{Answer}
 use Rattle.words.specs.Outcomes.{outcome}
-use Rattle.words.specs.declared.Judgement.{Judgement}
-use Rattle.words.specs.declared.Judgement.TheVariants.{Fine, Declined}
+use Rattle.words.specs.Refusals.{Judgement, Fine, Declined}
 use Rattle.xfield.specs.Extension.{Ext, is_zero_x}
 use Rattle.list.specs.Lists.{used}
 use Rattle.list.specs.Heights.{list_height}
@@ -26,7 +25,9 @@ use Rattle.fill.specs.Filling.{fill_all}
 use Rattle.fill.specs.Padding.{pad_all}
 use Rattle.fill.specs.Extending.{extend_reason, extend_all}
 use Rattle.text.specs.Lines.{row_line, verdict_line, refused_line}
-use Rattle.text.specs.Put.{Put}
+use Rattle.text.specs.declared.Text.{Text}
+use Rattle.text.specs.Put.{HasRoom, Adds}
+use Rattle.text.proofs.Adding.{reached}
 use Rattle.text.proofs.Lengths.{head_bound, row_bound, sum_bound, verdict_bound, refused_bound}
 use Rattle.list_stored.specs.Stored.{read_all}
 use Rattle.transcript.specs.Transcript.{max_input, max_printed_rows, challenge_bytes, input_challenges, unused_places, unless_refused}
@@ -104,18 +105,16 @@ opening_length n height padded table sum s =
     let b = sum_bound sum in
     simp length-append (omega arith)
 
--- where the line of the verdict begins
-pub opening_bound : {d d1 : List ℕ} {at next : ℕ} (n height padded : ℕ) (table : List ℕ) (a b c : ℕ)
-    → Put d at (opening_text n height padded table (a ∷ b ∷ c ∷ [])) d1 next → next ≤ at + (83 + 210 * padded + 67)
-opening_bound n height padded table a b c p = omega (arith, p.place, opening_length n height padded table (a ∷ b ∷ c ∷ []) (omega arith))
+-- there is room for the line of the verdict
+module _ {old mid : Text} (n height padded : ℕ) (table sum : List ℕ) (three : length sum ≤ 3) (few : padded ≤ max_printed_rows)
+    (room : HasRoom old max_text) (p : Adds old (opening_text n height padded table sum) mid) where
+  pub room_after : HasRoom mid 134
+  room_after =
+      let r = reached p in
+      omega (arith, room, r.len, r.size, opening_length n height padded table sum three)
 
--- and that there is room for it
-pub zero_fits : (at room : ℕ) → at + 134 ≤ room → at + length (verdict_line []) ≤ room
-zero_fits at room h = omega (arith, verdict_bound [])
-
-pub nonzero_fits : (group row index a b c at room : ℕ) → at + 134 ≤ room
-    → at + length (verdict_line (group ∷ row ∷ index ∷ a ∷ b ∷ c ∷ [])) ≤ room
-nonzero_fits group row index a b c at room h = omega (arith, verdict_bound (group ∷ row ∷ index ∷ a ∷ b ∷ c ∷ []))
+  pub verdict_fits : (vs : List ℕ) → length vs ≤ 6 → HasRoom mid (length (verdict_line vs))
+  verdict_fits vs h = omega (arith, room_after, verdict_bound vs)
 
 result_fits : (n height padded : ℕ) (table sum verdict : List ℕ) → padded ≤ max_printed_rows → length sum ≤ 3 → length verdict ≤ 6
     → length (result_text n height padded table sum verdict) ≤ max_text

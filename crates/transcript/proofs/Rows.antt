@@ -10,11 +10,11 @@ use Rattle.table.specs.Columns.{main_width, row_at}
 use Rattle.table.specs.RowWords.{row_words}
 
 -- the k words from place j + o on
-abbrev words_at : List ℕ → ℕ → ℕ → ℕ → List ℕ
+abbrev pub words_at : List ℕ → ℕ → ℕ → ℕ → List ℕ
 words_at t j o zero = []
 words_at t j o (suc k) = get_or t (j + o) 0 ∷ words_at t j (suc o) k
 
-part_words : (t : List ℕ) (j o k : ℕ) → j + o + k ≤ length t → take k (drop (j + o) t) ≡ words_at t j o k
+pub part_words : (t : List ℕ) (j o k : ℕ) → j + o + k ≤ length t → take k (drop (j + o) t) ≡ words_at t j o k
 part_words t j o zero h = refl
 part_words t j o (suc k) h =
     let e : suc (j + o) ≡ j + suc o = sym (add-suc j o) in

@@ -1,12 +1,12 @@
 -- What `u32list` prints (document 01, "Recording and stored lists", from "The program `u32list`" on), as a function of its input bytes.
-use Rattle.std.specs.Prelude.{ℕ, zero, suc, ◌+◌, ◌*◌, ◌≤◌, cond, List, [], ◌∷◌, ◌++◌, map, eqb, ltb, length, drop, replicate}
+use Rattle.std.specs.Prelude.{ℕ, zero, suc, ◌+◌, ◌*◌, ◌≤◌, ◌≡◌, cond, List, [], ◌∷◌, ◌++◌, map, eqb, ltb, length, drop, replicate, Result, Ok, Err}
 use Rattle.std.proofs.lemmas.List.Edits.{sets}
 use Rattle.words.specs.Limits.{max_places}
 use Rattle.words.specs.LittleEndian.{le_at}
 use Rattle.words.specs.Answers.{Answer, done, declined}
 use Rattle.words.specs.Outcomes.{Outcome, outcome}
-use Rattle.words.specs.Refusals.{refusal_number, decline_if}
-use Rattle.words.specs.declared.Judgement.{Judgement}
+use Rattle.words.specs.Refusals.{refusal_number, decline_if, Judgement}
+use Rattle.words.specs.declared.Refusal.{Refusal}
 use Rattle.words.specs.declared.Refusal.TheVariants.{Shape, Short, Torn}
 use Rattle.words.specs.Places.{places}
 use Rattle.list.specs.Lists.{used}
@@ -22,8 +22,8 @@ use Rattle.fill.specs.Filling.{fill_all}
 use Rattle.fill.specs.Padding.{pad_all}
 use Rattle.fill.specs.Extending.{extend_all}
 use Rattle.text.specs.Lines.{head_line, row_line, sum_line, verdict_line, refused_line}
-use Rattle.transcript.specs.declared.Transcribed.{Transcribed}
-use Rattle.transcript.specs.declared.Transcribed.TheVariants.{Length, Refused}
+use Rattle.text.specs.declared.Text.{Text}
+use Rattle.text.specs.Put.{HasRoom, Adds}
 
 -- ---- limits of the program
 -- "51,328 bytes become the most input": challenges and a stored list of 2,048 entries (proofs/Limits.antt: max_input_lem); more is refused with 10
@@ -136,14 +136,19 @@ transcribe_all input out =
     outcome (transcribe_reason out) (length (transcript_of input) ∷ []) out (sets out 0 (transcript_of input))
 
 -- what the answer of `transcript` means
-abbrev pub transcribed_answer : Transcribed → Answer
-transcribed_answer (Length n) = done (n ∷ [])
-transcribed_answer (Refused reason) = declined reason
+abbrev pub transcribed_answer : Result ℕ Refusal → Answer
+transcribed_answer (Ok n) = done (n ∷ [])
+transcribed_answer (Err reason) = declined reason
 
 -- what is put fits in any bytes that are not refused
 abbrev pub Fits : (input : List ℕ) → Type 0
 Fits input = length (transcript_of input) ≤ max_text
 
 -- ---- room: the text fits, and the table has the rows that are printed
-abbrev pub Printable : (out table : List ℕ) → (padded : ℕ) → Type 0
-Printable out table padded = (max_text ≤ length out) × (padded ≤ max_printed_rows) × (main_width * padded ≤ length table)
+abbrev pub Printable : Text → (table : List ℕ) → (padded : ℕ) → Type 0
+Printable text table padded = HasRoom text max_text × (padded ≤ max_printed_rows) × (main_width * padded ≤ length table)
+
+-- what a step leaves that prints: the text that is due was put; or a call refused, the text that is due is its line, and nothing was put yet
+abbrev pub Prints : (before : Text) → (due : List ℕ) → Result (Unit {0}) Refusal → (after : Text) → Type 0
+Prints before due (Ok put) after = Adds before due after
+Prints before due (Err reason) after = (due ≡ refused_line (refusal_number reason)) × (after ≡ before)

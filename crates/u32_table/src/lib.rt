@@ -1,7 +1,7 @@
 // The calls of document 01 as C functions on numbers and slices: include/u32_table.h describes them. Each returns document 01's number, 0 for done.
 // Further answers go into `answers`, a lent array of words: with fewer words than the call states it is refused with 1 before anything else is
 // looked at; on every other refusal it is untouched, but for u32_table_replay, which says on a refusal too how many steps were done. Its words past
-// those stated are always untouched.
+// those stated are always untouched. That parameters are flat, refusals numbers and answers words of a lent array is the C interface.
 #![tactic(auto)]
 
 ghost use Rattle.std.specs.Prelude.{◌≡◌};

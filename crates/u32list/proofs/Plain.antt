@@ -11,7 +11,7 @@ use lib.Dec.{eqb, ltb}
 use lib.ListN.{length, drop, length-replicate}
 use Rattle.words.specs.Limits.{max_rows}
 use Rattle.words.specs.Answers.{Answer, done}
-use Rattle.words.specs.declared.Judgement.TheVariants.{Fine}
+use Rattle.words.specs.Refusals.{Fine}
 use Rattle.words.proofs.Outcomes.{outcome_done}
 use Rattle.list.specs.Heights.{list_height}
 use Rattle.list.specs.Holds.{HeldList, section_list, judge_held}

@@ -2,16 +2,22 @@
 // `transcript` does all of it but the reading and the writing; where one of those fails, a line on standard error says so (`streams`).
 #![tactic(auto)]
 
-use streams::Filled;
-use transcript::Transcribed;
+use std::io::{Read, Write};
+use streams::Failure;
 
-// Reads standard input to its end, or to one byte more than is admitted, and writes the text.
-fn main(rt: HostRuntime) {
-    let mut input = transcript::input_room();
+// Reads the input to its end, or to one byte more than is admitted, and writes the text.
+fn run<R: Read, W: Write>(input: &mut R, output: &mut W) -> Result<(), Failure> {
+    let mut bytes = transcript::input_room();
     let mut out = transcript::room();
-    if let Filled::Bytes(n) = streams::read_full(&rt, &mut input) {
-        if let Transcribed::Length(length) = transcript::transcript(&input[..n], &mut out) {
-            streams::write_all(&rt, &out[..length]);
-        }
+    let n = streams::read_full(input, &mut bytes)?;
+    if let Ok(length) = transcript::transcript(&bytes[..n], &mut out) {
+        streams::write_all(output, &out[..length])?;
+    }
+    Ok(())
+}
+
+fn main(rt: HostRuntime) {
+    if let Err(failure) = run(&mut rt.stdin(), &mut rt.stdout()) {
+        streams::tell(&mut rt.stderr(), &failure);
     }
 }

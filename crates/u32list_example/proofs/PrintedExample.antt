@@ -14,9 +14,8 @@ use Rattle.xfield.specs.Inverses.{inv_x}
 use Rattle.xfield.proofs.Inverses.{inv_x_only}
 use Rattle.xfield.proofs.RingLawsX.{reduce_x_reduced}
 use Rattle.words.specs.Answers.{Answer, done}
-use Rattle.words.specs.Refusals.{first_reason}
+use Rattle.words.specs.Refusals.{first_reason, Fine}
 use Rattle.words.specs.LittleEndian.{le_at}
-use Rattle.words.specs.declared.Judgement.TheVariants.{Fine}
 use Rattle.words.specs.Places.{places_from}
 use Rattle.isa.specs.Opcodes.{is_opcode}
 use Rattle.isa.specs.Entries.{judge_as_it_is, judge_entry, admit_stored, admitted, admit, dominant, height_of, height}

@@ -2,297 +2,223 @@
 // else between them.
 #![tactic(auto)]
 
-ghost use Rattle.std.specs.Prelude.{◌≡◌, ◌≤◌, length};
+ghost use Rattle.std.specs.Prelude.{◌≡◌, ◌-◌, ◌*◌, ◌<◌, ◌≤◌, nat_lt, [], length, min, take, drop, replicate, if◌then◌else◌, MatchOption, MatchResult, List, ℕ, nat_eq};
+ghost use Rattle.arrayvec.specs.ArrayVec.{array_vec_len};
+ghost use Rattle.std.specs.Iterator.{at_most};
 ghost use Rattle.io.specs.Counts.{IsPrefixLen};
-ghost use Rattle.vectors.specs.Same.{same_first};
+ghost use Rattle.words.specs.Refusals.{refusal_number};
+ghost use Rattle.vectors.specs.Same.{same_first as same_first_of};
 ghost use Rattle.vectors.specs.Counts.{counted, answered, tallied};
 
-use std::io::Read;
+mod lists;
 
-// A number, and the place after it. Where there is none left, the value is 0 and the place the text's length.
-#[derive(Clone, Copy)]
-pub struct Parsed {
-    pub value: u64,
-    pub next: usize,
-}
+use arrayvec::ArrayVec;
+pub use lists::{LentList, LineList};
+use std::io::Read;
+use words::Refusal;
 
 // A number as a length, cut to what there is.
 pub fn within(n: u64, length: usize) -> usize
-    ensures { result ≤ length }
+    ensures bound { result ≤ length }
+    ensures exact { result ≡ min n length }
 {
-    if n < length as u64 {
-        n as usize
-    } else {
-        length
+    n.min(length as u64) as usize
+}
+
+// The first n items of a buffer, or all where it has fewer.
+pub fn part<T>(items: &[T], n: usize) -> &[T]
+    ensures { result.now ≡ take n items.now }
+{
+    items.get(..n).unwrap_or(items)
+}
+
+// The same part, for writing.
+pub fn part_mut<T>(items: &mut [T], n: usize) -> &mut [T]
+    ensures part { result.now ≡ take n items.old }
+{
+    let n = n.min(items.len());
+    &mut items[..n]
+}
+
+// ---- the numbers of a text
+// The numbers of a text, one after the other: what is left of the text.
+#[derive(Clone, Copy)]
+pub struct Numbers<'a> {
+    pub rest: &'a [u8],
+}
+
+impl Iterator for Numbers<'_> {
+    type Item = u64;
+
+    // Where there is none, nothing changes; else there is less left.
+    ghost next_gives = { λ s r t. MatchOption r (t.rest.now ≡ s.rest.now) (λ _. length t.rest.now < length s.rest.now) };
+
+    ghost remaining = { λ s. at_most (length s.rest.now) };
+
+    fn next(&mut self) -> Option<u64> {
+        let start = self.rest.iter().position(|b| b.is_ascii_digit())?;
+        let (first, after) = self.rest[start..].split_first()?;
+        let end = after
+            .iter()
+            .position(|b| !b.is_ascii_digit())
+            .unwrap_or(after.len());
+        let (digits, rest) = after.split_at(end);
+        self.rest = rest;
+        Some(
+            digits
+                .iter()
+                .fold(with_digit(0, *first), |n, b| with_digit(n, *b)),
+        )
     }
 }
 
-// The first n words of a buffer, or all where it has fewer.
-pub fn part(words: &[u64], n: usize) -> &[u64] {
-    if n <= words.len() { &words[..n] } else { words }
-}
-
-pub fn part_mut(words: &mut [u64], n: usize) -> &mut [u64] {
-    if n <= words.len() {
-        return &mut words[..n];
+impl Numbers<'_> {
+    // The next number, or 0 where there is none left.
+    pub fn number(&mut self) -> u64
+        ensures bound { length self.new.rest.now ≤ length self.old.rest.now }
+        ensures read { 0 < result → length self.new.rest.now < length self.old.rest.now }
+    {
+        self.next().unwrap_or(0)
     }
-    words
-}
 
-// The first n bytes of a buffer, or all where it has fewer.
-pub fn byte_part(bytes: &[u8], n: usize) -> &[u8] {
-    if n <= bytes.len() { &bytes[..n] } else { bytes }
-}
-
-pub fn byte_part_mut(bytes: &mut [u8], n: usize) -> &mut [u8] {
-    if n <= bytes.len() {
-        return &mut bytes[..n];
-    }
-    bytes
-}
-
-fn digit(b: u8) -> bool {
-    if b < 48 { false } else { b < 58 }
-}
-
-// The first place from `from` on that holds a digit, or the length.
-fn first_digit(text: &[u8], from: usize) -> usize {
-    let mut i = from;
-    while i < text.len() {
-        if digit(text[i]) {
-            return i;
+    // The next numbers in an array: `count` of them, or as many as it has places for. One that does not fit the items' type is 0.
+    pub fn array<T: TryFrom<u64> + Default + Drop, const N: usize>(
+        &mut self,
+        count: u64,
+    ) -> ArrayVec<T, N>
+    where
+        T::Error: Drop,
+        ensures { array_vec_len result ≡ min count N }
+    {
+        let mut items = ArrayVec::new();
+        for _ in 0..within(count, N) {
+            let _ = items.try_push(T::try_from(self.number()).unwrap_or_default());
         }
-        i += 1;
+        items
     }
-    i
+
+    // A count, and then so many numbers, or as many as the array has places for.
+    pub fn counted_array<T: TryFrom<u64> + Default + Drop, const N: usize>(
+        &mut self,
+    ) -> ArrayVec<T, N>
+    where
+        T::Error: Drop,
+    {
+        let count = self.number();
+        self.array(count)
+    }
+
+    // Whether words are those that come next. A line has no more than 1,024 in a row, and more than that differ.
+    pub fn words_are(&mut self, words: &[u64]) -> bool
+        ensures { (wanted : List ℕ) × (length wanted ≡ min (length words.now) 1024) × (result ≡ same_first_of nat_eq (length words.now) words.now wanted) }
+    {
+        let wanted = self.array::<u64, 1024>(words.len() as u64);
+        same_first(words, wanted.as_slice(), words.len())
+    }
+
+    // Whether an answer is the one that comes next: document 01's number, and the N words of its value, zeros where there is none.
+    pub fn answer_is<const N: usize>(&mut self, answer: Result<[u64; N], Refusal>) -> bool {
+        let number = self.number();
+        number == number_of(&answer) && self.words_are(&answer.unwrap_or([0; N]))
+    }
+}
+
+// Document 01's number of an answer: 0 where it is a value, and else the reason's.
+pub fn number_of<T>(answer: &Result<T, Refusal>) -> u64
+    ensures { MatchResult answer.now (λ _. result ≡ 0) (λ reason. result ≡ refusal_number reason) }
+{
+    match answer {
+        Ok(_) => 0,
+        Err(reason) => u64::from(*reason),
+    }
 }
 
 // A number with one digit more; a number that passes 2^64 stays what it is.
-fn with_digit(n: u64, b: u8) -> u64 {
-    if 1844674407370955161 < n {
-        return n;
-    }
-    if b < 48 {
-        return n;
-    }
-    std::num::wrapping_add_u64(n * 10, wide(b - 48))
+fn with_digit(n: u64, digit: u8) -> u64 {
+    n.checked_mul(10)
+        .and_then(|n| n.checked_add(u64::from(digit.saturating_sub(b'0'))))
+        .unwrap_or(n)
 }
 
-fn wide(b: u8) -> u64 {
-    b as u64
-}
-
-// The first number from `from` on.
-pub fn number(text: &[u8], from: usize) -> Parsed {
-    let mut i = first_digit(text, from);
-    let mut n: u64 = 0;
-    while i < text.len() {
-        let b = text[i];
-        if digit(b) {
-            n = with_digit(n, b);
-        } else {
-            return Parsed { value: n, next: i };
-        }
-        i += 1;
-    }
-    Parsed { value: n, next: i }
-}
-
-// The next `count` numbers, put at the start of `out`, as many as it has places for; answers the place after them.
-pub fn numbers(text: &[u8], from: usize, out: &mut [u64], count: usize) -> usize {
-    let mut at = from;
-    let mut i: usize = 0;
-    while i < count {
-        let n = number(text, at);
-        at = n.next;
-        if i < out.len() {
-            out[i] = n.value;
-        } else {
-            return at;
-        }
-        i += 1;
-    }
-    at
-}
-
-// The place after the next `count` numbers.
-pub fn skip(text: &[u8], from: usize, count: usize) -> usize {
-    let mut at = from;
-    let mut i: usize = 0;
-    while i < count {
-        let n = number(text, at);
-        at = n.next;
-        i += 1;
-    }
-    at
-}
-
-// The next `count` numbers as bytes, put at the start of `out`, as many as it has places for; answers the place after them.
-pub fn bytes(text: &[u8], from: usize, out: &mut [u8], count: usize) -> usize {
-    let mut at = from;
-    let mut i: usize = 0;
-    while i < count {
-        let n = number(text, at);
-        at = n.next;
-        if i < out.len() {
-            out[i] = (n.value % 256) as u8;
-        } else {
-            return at;
-        }
-        i += 1;
-    }
-    at
+// Whether the first `count` items of both are the same; an item past an end differs.
+#[tactic(auto, using(crate::proofs::SameLaws::alike, crate::proofs::SameLaws::first_short, crate::proofs::SameLaws::second_short))]
+pub fn same_first<T: PartialEq>(left: &[T], right: &[T], count: usize) -> bool
+    ensures { result ≡ same_first_of T.eq count left.now right.now }
+{
+    count <= left.len() && count <= right.len() && left[..count] == right[..count]
 }
 
 // ---- reading standard input in parts
-// How many bytes are left of the first n of a buffer without the first `done`.
-fn left(n: usize, done: usize, length: usize) -> usize
-    ensures { result ≤ length }
-{
-    if n <= length {
-        if done <= n {
-            return n - done;
-        }
-    }
-    0
-}
-
-// The byte at one place goes to another.
-fn move_byte(text: &mut [u8], from: u64, to: usize) {
-    if from < text.len() as u64 {
-        if to < text.len() {
-            text[to] = text[from as usize];
-        }
-    }
-}
-
-// The first `count` bytes from `from` on go to the front.
-fn to_front(text: &mut [u8], from: usize, count: usize) {
-    let mut i: usize = 0;
-    while i < count {
-        move_byte(text, std::num::wrapping_add_u64(from as u64, i as u64), i);
-        i += 1;
-    }
-}
-
-// One read of what follows the bytes that are there. Answers how many bytes are there then.
-fn read_more(rt: &HostRuntime, buf: &mut [u8], done: usize) -> usize
-    requires { done ≤ length buf.old }
-    ensures low { done ≤ result }
-    ensures high { result ≤ length buf.new }
-{
-    match rt.stdin().read(&mut buf[done..]) {
-        Ok(n) => done + n,
-        Err(_) => done,
-    }
-}
-
-// Reads standard input until the buffer is full, the input ends or a read fails, and answers how many bytes it put at the start of the buffer.
-pub fn read_full(rt: &HostRuntime, buf: &mut [u8]) -> usize
+// Reads until the buffer is full, the input ends or a read fails, and answers how many bytes it put at the start of the buffer.
+pub fn read_full(reader: &mut impl Read, buf: &mut [u8]) -> usize
     ensures { IsPrefixLen result buf.new }
 {
-    let mut done: usize = 0;
+    // A loop of its own: std's reads into a slice do not say how many bytes came before an error or the end.
+    let mut done = 0;
     while done < buf.len() {
-        let next = read_more(rt, buf, done);
-        if next == done {
-            break;
+        match reader.read(&mut buf[done..]) {
+            Ok(n) if 0 < n => done += n,
+            _ => break,
         }
-        done = next;
     }
     done
 }
 
-// Of the `filled` bytes that a buffer holds the first `done` are dropped, the others go to the front, and standard input is read behind them
-// until the buffer is full or the input ends. Answers how many bytes the buffer holds then.
-pub fn refill(rt: &HostRuntime, text: &mut [u8], filled: usize, done: usize) -> usize {
-    let kept = left(filled, done, text.len());
-    to_front(text, done, kept);
-    let more = read_full(rt, &mut text[kept..]);
-    std::num::wrapping_add_u64(kept as u64, more as u64) as usize
+// An input that is read in parts: its reader, and the bytes that were read and are not done with.
+#[derive(Drop)]
+pub struct Input<R> {
+    reader: R,
+    pub bytes: ArrayVec<u8, 65536>,
 }
 
-// The place after the last line that ends; 0 where none does.
-pub fn whole_lines(text: &[u8]) -> usize {
-    let mut end: usize = 0;
-    let mut i: usize = 0;
-    while i < text.len() {
-        let b = text[i];
-        i += 1;
-        if b == b'\n' {
-            end = i;
-        }
+impl<R: Read> Input<R> {
+    // An input with its first part.
+    pub fn new(reader: R) -> Self {
+        let mut input = Input {
+            reader,
+            bytes: ArrayVec::new(),
+        };
+        input.advance(0);
+        input
     }
-    end
-}
 
-// A digit becomes another digit; every other byte stays.
-fn other_digit(b: u8) -> u8 {
-    if !digit(b) {
-        return b;
-    }
-    if b < 57 { b + 1 } else { 56 }
-}
-
-// Where a line ends at place i + 1, a digit at place i becomes another.
-fn change_end(text: &mut [u8], i: usize) {
-    if i < text.len() {
-        if 1 < text.len() - i {
-            if text[i + 1] == b'\n' {
-                text[i] = other_digit(text[i]);
-            }
-        }
+    // Drops the first `done` bytes, or all where there are fewer, and reads on until there is no room left or the input ends.
+    pub fn advance(&mut self, done: usize)
+        ensures { take (length self.old.bytes.items - done) self.new.bytes.items ≡ drop done self.old.bytes.items }
+    {
+        let filled = self.bytes.len();
+        let done = done.min(filled);
+        let kept = filled - done;
+        self.bytes.as_mut_slice().rotate_left(done);
+        self.bytes.truncate(kept);
+        let mut more = io::large_buffer();
+        let n = read_full(&mut self.reader, part_mut(&mut more, 65536 - kept));
+        let _ = self.bytes.try_extend_from_slice(part(&more, n));
     }
 }
 
-// The last digit of every line becomes another, so that the last number of each line is another: a run of such lines must differ in each.
-pub fn change_lines(text: &mut [u8]) {
-    let mut i: usize = 0;
-    while i < text.len() {
-        change_end(text, i);
-        i += 1;
-    }
-}
-
-// Whether the first `count` bytes of both are the same; a byte past an end differs.
-pub fn same_bytes(a: &[u8], b: &[u8], count: usize) -> bool
-    ensures { result ≡ same_first count a.now b.now }
+// ---- the lines of a part
+// How many bytes the whole lines of a text have.
+fn whole_lines(text: &[u8]) -> usize
+    ensures { result ≤ length text.now }
 {
-    let mut i: usize = 0;
-    while i < count {
-        if a.len() <= i {
-            return false;
-        }
-        if b.len() <= i {
-            return false;
-        }
-        if a[i] != b[i] {
-            return false;
-        }
-        i += 1;
-    }
-    true
+    text.iter()
+        .rposition(|b| *b == b'\n')
+        .map_or(0, |end| end + 1)
 }
 
-// Whether the first `count` words of both are the same; a word past an end differs.
-pub fn same_words(left: &[u64], right: &[u64], count: usize) -> bool
-    ensures { result ≡ same_first count left.now right.now }
-{
-    let mut i: usize = 0;
-    while i < count {
-        if left.len() <= i {
-            return false;
-        }
-        if right.len() <= i {
-            return false;
-        }
-        if left[i] != right[i] {
-            return false;
-        }
-        i += 1;
+// A line's last digit becomes another, so that its last number is another: the run of such a line must differ.
+fn change_line(line: &mut [u8]) {
+    if let Some(digit) = line.last_mut() {
+        *digit = match *digit {
+            b'0'..=b'8' => *digit + 1,
+            b'9' => b'8',
+            other => other,
+        };
     }
-    true
 }
 
+// ---- counts
 // Counts of 32 kinds of calls, 32 places each: at place n the calls that answered number n of document 01, and at the last place those
 // that differ from what was wanted.
 const KINDS: usize = 32;
@@ -301,69 +227,122 @@ const PLACES: usize = 32;
 
 const DIFFER: usize = 31;
 
-pub const COUNTS: usize = KINDS * PLACES;
+const COUNTS: usize = KINDS * PLACES;
 
-// Adds one at a place of a kind.
-fn count(counts: &mut [u64; COUNTS], kind: usize, place: usize)
-    ensures { counts.new ≡ counted counts.old kind place }
-{
-    if kind < KINDS {
-        if place < PLACES {
+#[derive(Clone, Copy)]
+pub struct Counts {
+    pub places: [u64; COUNTS],
+}
+
+impl Counts {
+    // No call was counted.
+    pub fn new() -> Self
+        ensures { result.places ≡ replicate 1024 0 }
+    {
+        Counts {
+            places: [0; COUNTS],
+        }
+    }
+
+    // Adds one at a place of a kind.
+    #[tactic(auto, unfolding(crate::specs::Counts::counted))]
+    fn count(&mut self, kind: usize, place: usize)
+        ensures { self.new.places ≡ counted self.old.places kind place }
+    {
+        if kind < KINDS && place < PLACES {
             let i = kind * PLACES + place;
-            counts[i] = std::num::wrapping_add_u64(counts[i], 1);
+            self.places[i] = self.places[i].wrapping_add(1);
         }
     }
-}
 
-// Counts the number that a call of a kind answered.
-fn count_answer(counts: &mut [u64; COUNTS], kind: usize, number: u64)
-    ensures { counts.new ≡ answered counts.old kind number }
-{
-    if number < DIFFER as u64 {
-        count(counts, kind, number as usize);
+    // Counts the number that a call of a kind answered.
+    #[tactic(auto, unfolding(crate::specs::Counts::answered))]
+    fn count_answer(&mut self, kind: usize, number: u64)
+        ensures { self.new.places ≡ answered self.old.places kind number }
+    {
+        if number < DIFFER as u64 {
+            self.count(kind, number as usize);
+        }
     }
-}
 
-// Notes a call of a kind: the number that it answered, and whether all is as wanted.
-pub fn tally(counts: &mut [u64; COUNTS], kind: usize, number: u64, same: bool)
-    ensures { counts.new ≡ tallied counts.old kind number same }
-{
-    count_answer(counts, kind, number);
-    if !same {
-        count(counts, kind, DIFFER);
+    // Notes a call of a kind: the number that it answered, and whether all is as wanted.
+    #[tactic(auto, unfolding(crate::specs::Counts::tallied))]
+    pub fn tally(&mut self, kind: usize, number: u64, same: bool)
+        ensures { self.new.places ≡ tallied self.old.places kind number same }
+    {
+        self.count_answer(kind, number);
+        if !same {
+            self.count(kind, DIFFER);
+        }
     }
-}
 
-// Writes a kind's counts: the calls that were done, those refused with each number that was met, and those that differ.
-pub fn print_tally(rt: &HostRuntime, name: &[u8], counts: &[u64; COUNTS], kind: usize) {
-    if kind < KINDS {
-        let from = kind * PLACES;
-        print_text(rt, name);
-        print_count(rt, b" done", counts[from]);
-        let mut n: usize = 1;
-        while n < DIFFER {
-            if 0 < counts[from + n] {
-                print_count(rt, b" refused", n as u64);
-                print_count(rt, b":", counts[from + n]);
+    // The counts of a kind; none past the last kind.
+    pub fn of_kind(&self, kind: usize) -> &[u64]
+        ensures { result.now ≡ (if nat_lt kind 32 then take 32 (drop (32 * kind) self.now.places) else []) }
+    {
+        if kind < KINDS {
+            &self.places[kind * PLACES..(kind + 1) * PLACES]
+        } else {
+            &[]
+        }
+    }
+
+    // Writes a kind's counts: the calls that were done, those refused with each number that was met, and those that differ.
+    pub fn print(&self, rt: &impl Print, name: &str, kind: usize) {
+        if let [done, refused @ .., differ] = self.of_kind(kind) {
+            let _ = print!(rt; "{name} done {done}");
+            for (i, count) in refused.iter().enumerate() {
+                if 0 < *count {
+                    let number = i + 1;
+                    let _ = print!(rt; " refused {number}: {count}");
+                }
             }
-            n += 1;
+            let _ = println!(rt; " differ {differ}");
         }
-        print_count(rt, b" differ", counts[from + DIFFER]);
-        print_text(rt, b"\n");
     }
 }
 
-// Writes a name, a space and a number.
-pub fn print_count(rt: &HostRuntime, name: &[u8], n: u64) {
-    print_text(rt, name);
-    print_text(rt, b" ");
-    print_number(rt, n);
+// ---- runs
+// What a run of lines found: counts of the lines as they are and of the changed lines, and how many bytes were not run: none, but where a line
+// does not end, a line is longer than a part, or there are more than a thousand parts.
+#[derive(Clone, Copy)]
+pub struct Run {
+    pub counts: Counts,
+    pub changed: Counts,
+    pub left: usize,
 }
 
-pub fn print_number(rt: &HostRuntime, n: u64) {
-    let _ = rt.print(n);
+impl Run {
+    // Runs each line of a text as it is, and changed.
+    fn lines<F: Fn(Numbers<'_>, &mut Counts)>(&mut self, text: &mut [u8], run: &F)
+        requires { F.IsAlwaysCallable run.now }
+    {
+        for line in text.split_mut(|b| *b == b'\n') {
+            run(Numbers { rest: line }, &mut self.counts);
+            change_line(line);
+            run(Numbers { rest: line }, &mut self.changed);
+        }
+    }
 }
 
-pub fn print_text(rt: &HostRuntime, text: &[u8]) {
-    let _ = rt.write_all(text);
+// Runs the lines of an input, a part after the other.
+pub fn run_input<R: Read + Drop, F: Fn(Numbers<'_>, &mut Counts) + Drop>(reader: R, run: F) -> Run
+    requires { F.IsAlwaysCallable run }
+{
+    let mut found = Run {
+        counts: Counts::new(),
+        changed: Counts::new(),
+        left: 0,
+    };
+    let mut input = Input::new(reader);
+    for _ in 0..1000 {
+        if input.bytes.is_empty() {
+            break;
+        }
+        let whole = whole_lines(input.bytes.as_slice());
+        found.lines(part_mut(input.bytes.as_mut_slice(), whole), &run);
+        input.advance(whole);
+    }
+    found.left = input.bytes.len();
+    found
 }

@@ -3,233 +3,213 @@
 #![tactic(auto)]
 
 use field::BFieldElement;
+use isa::Opcode;
 use table::{AuxRow, Challenges, MainRow};
-use vectors::{print_count, print_number, print_text};
 use xfield::XFieldElement;
 
-// The digests of the constraints so far, and how many values of each were zero.
-#[derive(Clone, Copy)]
-struct Digests {
-    folds: [u64; 40],
-    zeros: [u64; 40],
-}
-
 // ---- words
-fn drawn(x: u64) -> u64 {
-    BFieldElement(x)
-        .mul(BFieldElement(6364136223846793005))
-        .add(BFieldElement(1442695040888963407))
-        .0
-}
+// Words that are drawn one after the other: the last that was drawn.
+#[derive(Drop)]
+struct Draws(u64);
 
-// Draws as many words as there are places; answers the last.
-fn draw(from: u64, out: &mut [u64]) -> u64 {
-    let mut x = from;
-    let mut i: usize = 0;
-    while i < out.len() {
-        x = drawn(x);
-        out[i] = x;
-        i += 1;
+impl Draws {
+    fn word(&mut self) -> u64 {
+        let next = BFieldElement(self.0) * BFieldElement(6364136223846793005)
+            + BFieldElement(1442695040888963407);
+        self.0 = next.0;
+        self.0
     }
-    x
+
+    fn words<const N: usize>(&mut self) -> [u64; N] {
+        let mut words = [0; N];
+        for word in words.iter_mut() {
+            *word = self.word();
+        }
+        words
+    }
 }
 
 // Each word modulo 3.
 fn make_small(words: &mut [u64]) {
-    let mut i: usize = 0;
-    while i < words.len() {
-        words[i] = words[i] % 3;
-        i += 1;
+    for word in words {
+        *word %= 3;
     }
 }
 
 // Twice the lower operand, and the upper one's lowest bit.
 fn doubled(lower: u64, upper: u64) -> u64 {
-    BFieldElement(2)
-        .mul(BFieldElement(lower))
-        .add(BFieldElement(upper % 2))
-        .0
+    (BFieldElement(2) * BFieldElement(lower) + BFieldElement(upper % 2)).0
 }
 
 fn flag(which: u64, word: u64) -> u64 {
     match which {
-        0 => 0,
-        1 => 1,
-        2 => 2,
+        0..=2 => which,
         _ => word,
     }
 }
 
+// An opcode's number; 22 is that of none.
 fn opcode(which: u64, word: u64) -> u64 {
     match which {
-        0 => 4,
-        1 => 6,
-        2 => 12,
-        3 => 14,
-        4 => 28,
-        5 => 30,
+        0 => Opcode::Split as u64,
+        1 => Opcode::Lt as u64,
+        2 => Opcode::Log2Floor as u64,
+        3 => Opcode::And as u64,
+        4 => Opcode::PopCount as u64,
+        5 => Opcode::Pow as u64,
         6 => 22,
         _ => word,
     }
 }
 
-// The flags and opcodes of pair k.
-fn set_flags(k: u64, upper: &mut [u64; 10], lower: &mut [u64; 10]) {
-    upper[0] = flag(k % 4, upper[0]);
-    lower[0] = flag(k / 4 % 4, lower[0]);
-    upper[3] = opcode(k / 16 % 8, upper[3]);
-    lower[3] = opcode((k / 16 + k / 128) % 8, lower[3]);
+// ---- pairs of rows
+// The words of a pair: two rows, one after the other, with their aux rows, and the challenges.
+#[derive(Drop)]
+struct Pair {
+    upper: [u64; 10],
+    upper_aux: [u64; 3],
+    lower: [u64; 10],
+    lower_aux: [u64; 3],
+    weights: [u64; 15],
 }
 
-// Small Results, and upper operands that halve to the lower ones.
-fn make_steps(upper: &mut [u64; 10], lower: &mut [u64; 10]) {
-    upper[8] = upper[8] % 3;
-    lower[8] = lower[8] % 3;
-    upper[4] = doubled(lower[4], upper[4]);
-    upper[6] = doubled(lower[6], upper[6]);
-}
+impl Pair {
+    // Pair k, drawn where the one before ended.
+    fn draw(k: u64, draws: &mut Draws) -> Self {
+        let mut pair = Pair {
+            upper: draws.words(),
+            upper_aux: draws.words(),
+            lower: draws.words(),
+            lower_aux: draws.words(),
+            weights: draws.words(),
+        };
+        match k % 3 {
+            1 => pair.make_small(),
+            2 => pair.make_steps(),
+            _ => {}
+        }
+        pair.set_flags(k);
+        pair
+    }
 
-fn more_bits(row: &mut [u64; 10]) {
-    row[1] = std::num::wrapping_add_u64(row[1], 32);
+    // Small words, and more bits.
+    fn make_small(&mut self) {
+        make_small(&mut self.upper);
+        make_small(&mut self.upper_aux);
+        make_small(&mut self.lower);
+        make_small(&mut self.lower_aux);
+        self.upper[1] = self.upper[1].wrapping_add(32);
+        self.lower[1] = self.lower[1].wrapping_add(32);
+    }
+
+    // Small Results, and upper operands that halve to the lower ones.
+    fn make_steps(&mut self) {
+        self.upper[8] %= 3;
+        self.lower[8] %= 3;
+        self.upper[4] = doubled(self.lower[4], self.upper[4]);
+        self.upper[6] = doubled(self.lower[6], self.upper[6]);
+    }
+
+    // The flags and opcodes of pair k.
+    fn set_flags(&mut self, k: u64) {
+        self.upper[0] = flag(k % 4, self.upper[0]);
+        self.lower[0] = flag(k / 4 % 4, self.lower[0]);
+        self.upper[3] = opcode(k / 16 % 8, self.upper[3]);
+        self.lower[3] = opcode((k / 16 + k / 128) % 8, self.lower[3]);
+    }
 }
 
 // ---- values
-fn folded(digest: u64, word: u64) -> u64 {
-    BFieldElement(digest)
-        .mul(BFieldElement(31))
-        .add(BFieldElement(word))
-        .0
+// The digest of a constraint's values so far, and how many of them were zero.
+#[derive(Clone, Copy)]
+struct Digest {
+    fold: BFieldElement,
+    zeros: u64,
 }
 
-// A value of constraint i.
-fn noted(digests: Digests, i: usize, value: XFieldElement) -> Digests {
-    let mut next = digests;
-    if i < 40 {
-        let first = folded(next.folds[i], value.0.0);
-        let second = folded(first, value.1.0);
-        next.folds[i] = folded(second, value.2.0);
+impl Digest {
+    fn note(&mut self, value: XFieldElement) {
+        for word in [value.0, value.1, value.2] {
+            self.fold = self.fold * BFieldElement(31) + word;
+        }
         if value.is_zero() {
-            next.zeros[i] = std::num::wrapping_add_u64(next.zeros[i], 1);
+            self.zeros = self.zeros.wrapping_add(1);
         }
     }
-    next
 }
 
-fn note_consistency(digests: Digests, values: [XFieldElement; 15]) -> Digests {
-    let mut next = digests;
-    let mut i: usize = 0;
-    while i < 15 {
-        next = noted(next, 1 + i, values[i]);
-        i += 1;
+// The digests of a group of N constraints.
+#[derive(Clone, Copy)]
+struct Group<const N: usize> {
+    digests: [Digest; N],
+}
+
+impl<const N: usize> Group<N> {
+    fn new() -> Self {
+        let none = Digest {
+            fold: BFieldElement::ZERO,
+            zeros: 0,
+        };
+        Group { digests: [none; N] }
     }
-    next
-}
 
-fn note_transition(digests: Digests, values: [XFieldElement; 22]) -> Digests {
-    let mut next = digests;
-    let mut i: usize = 0;
-    while i < 22 {
-        next = noted(next, 16 + i, values[i]);
-        i += 1;
-    }
-    next
-}
-
-fn note_pair(
-    digests: Digests,
-    challenges: Challenges,
-    upper: MainRow,
-    lower: MainRow,
-    aux: AuxRow,
-    aux_next: AuxRow,
-) -> Digests {
-    let initial = check_rows::initial_constraints(challenges, upper, aux);
-    let terminal = check_rows::terminal_constraints(upper);
-    let first = noted(digests, 0, initial[0]);
-    let second = note_consistency(first, check_rows::consistency_constraints(upper));
-    let third = note_transition(
-        second,
-        check_pairs::transition_constraints(challenges, upper, lower, aux, aux_next),
-    );
-    noted(noted(third, 38, terminal[0]), 39, terminal[1])
-}
-
-// ---- printing
-fn print_group(rt: &HostRuntime, digests: Digests, group: u64, from: usize, count: usize) {
-    let mut i: usize = 0;
-    while i < count {
-        if i < 40 {
-            if from < 40 - i {
-                print_number(rt, group);
-                print_count(rt, b"", i as u64);
-                print_count(rt, b"", digests.folds[from + i]);
-                print_count(rt, b"", digests.zeros[from + i]);
-                print_text(rt, b"\n");
-            }
+    // A value of each constraint.
+    fn note(&mut self, values: [XFieldElement; N]) {
+        for (digest, value) in self.digests.iter_mut().zip(&values) {
+            digest.note(*value);
         }
-        i += 1;
+    }
+
+    // The group's number, the constraint's, its digest and its zeros, a line each.
+    fn print(&self, rt: &impl Print, group: u64) {
+        for (i, digest) in self.digests.iter().enumerate() {
+            let fold = digest.fold.0;
+            let zeros = digest.zeros;
+            let _ = println!(rt; "{group} {i} {fold} {zeros}");
+        }
     }
 }
 
-// One pair after another, each drawn where the one before ended.
-fn run() -> Digests {
-    let mut digests = Digests {
-        folds: [0; 40],
-        zeros: [0; 40],
-    };
-    let mut x: u64 = 1;
-    let mut k: u64 = 0;
-    while k < 640 {
-        let mut upper = [0u64; 10];
-        let mut upper_aux = [0u64; 3];
-        let mut lower = [0u64; 10];
-        let mut lower_aux = [0u64; 3];
-        let mut weights = [0u64; 15];
-        x = draw(x, &mut upper);
-        x = draw(x, &mut upper_aux);
-        x = draw(x, &mut lower);
-        x = draw(x, &mut lower_aux);
-        x = draw(x, &mut weights);
-        if k % 3 == 1 {
-            make_small(&mut upper);
-            make_small(&mut upper_aux);
-            make_small(&mut lower);
-            make_small(&mut lower_aux);
-            more_bits(&mut upper);
-            more_bits(&mut lower);
-        }
-        if k % 3 == 2 {
-            make_steps(&mut upper, &mut lower);
-        }
-        set_flags(k, &mut upper, &mut lower);
-        digests = note_words(digests, &upper, &upper_aux, &lower, &lower_aux, &weights);
-        k += 1;
-    }
-    digests
+// The four groups of constraints.
+#[derive(Clone, Copy)]
+struct Groups {
+    initial: Group<1>,
+    consistency: Group<15>,
+    transition: Group<22>,
+    terminal: Group<2>,
 }
 
-fn note_words(
-    digests: Digests,
-    upper: &[u64; 10],
-    upper_aux: &[u64; 3],
-    lower: &[u64; 10],
-    lower_aux: &[u64; 3],
-    weights: &[u64; 15],
-) -> Digests {
-    note_pair(
-        digests,
-        Challenges::from_words(weights),
-        MainRow::at(upper, 0),
-        MainRow::at(lower, 0),
-        AuxRow::at(upper_aux, 0),
-        AuxRow::at(lower_aux, 0),
-    )
+impl Groups {
+    fn note(&mut self, pair: &Pair) {
+        let challenges = Challenges::from_words(&pair.weights);
+        let upper = MainRow::at(&pair.upper, 0);
+        let lower = MainRow::at(&pair.lower, 0);
+        let aux = AuxRow::at(&pair.upper_aux, 0);
+        let aux_next = AuxRow::at(&pair.lower_aux, 0);
+        self.initial
+            .note(check_rows::initial_constraints(challenges, upper, aux));
+        self.consistency
+            .note(check_rows::consistency_constraints(upper));
+        self.transition.note(check_pairs::transition_constraints(
+            challenges, upper, lower, aux, aux_next,
+        ));
+        self.terminal.note(check_rows::terminal_constraints(upper));
+    }
 }
 
 fn main(rt: HostRuntime) {
-    let digests = run();
-    print_group(&rt, digests, 0, 0, 1);
-    print_group(&rt, digests, 1, 1, 15);
-    print_group(&rt, digests, 2, 16, 22);
-    print_group(&rt, digests, 3, 38, 2);
+    let mut groups = Groups {
+        initial: Group::new(),
+        consistency: Group::new(),
+        transition: Group::new(),
+        terminal: Group::new(),
+    };
+    let mut draws = Draws(1);
+    for k in 0..640 {
+        groups.note(&Pair::draw(k, &mut draws));
+    }
+    groups.initial.print(&rt, 0);
+    groups.consistency.print(&rt, 1);
+    groups.transition.print(&rt, 2);
+    groups.terminal.print(&rt, 3);
 }

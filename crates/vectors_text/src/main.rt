@@ -4,172 +4,128 @@
 // later: each must differ.
 #![tactic(auto)]
 
-use transcript::{MAX_TEXT, Transcribed};
-use vectors::{byte_part, byte_part_mut, tally};
+use transcript::MAX_TEXT;
+use vectors::{Counts, Input, Numbers, number_of, part, part_mut, same_first};
+use words::Refusal;
+
+// What is counted of each case.
+#[derive(Clone, Copy)]
+enum Kind {
+    Text = 1,
+    OutputShort,
+    TextLater,
+}
+
+impl Kind {
+    fn name(self) -> &'static str {
+        match self {
+            Kind::Text => "text",
+            Kind::OutputShort => "output a byte short",
+            Kind::TextLater => "text a byte later",
+        }
+    }
+}
 
 // What the output holds before a call.
 const MARK: u8 = 170;
 
-fn mark(out: &mut [u8]) {
-    let mut i: usize = 0;
-    while i < out.len() {
-        out[i] = MARK;
-        i += 1;
-    }
+// Whether bytes hold what they held before the call.
+fn untouched(out: &[u8]) -> bool {
+    out.iter().all(|b| *b == MARK)
 }
 
-// Whether the bytes from a place on hold what they held before the call.
-fn untouched(out: &[u8], from: usize) -> bool {
-    let mut i = from;
-    while i < out.len() {
-        if out[i] != MARK {
-            return false;
-        }
-        i += 1;
-    }
-    true
-}
-
-// Whether the output begins with the `length` bytes of the file from a place on.
-fn begins(out: &[u8], file: &[u8], from: usize, length: usize) -> bool {
-    if from <= file.len() {
-        return vectors::same_bytes(out, &file[from..], length);
-    }
-    false
+// The length of the text that is put into marked output, or why there is none.
+fn transcribed(input: &[u8], out: &mut [u8]) -> Result<usize, Refusal> {
+    out.fill(MARK);
+    transcript::transcript(input, out)
 }
 
 // Document 01's number of a text: the one in a refusal's line, and 0 for every other text.
-fn answered(out: &[u8]) -> u64 {
-    if out.len() == 0 {
-        return 0;
+fn answered(text: &[u8]) -> u64 {
+    match text {
+        [b'r', ..] => Numbers { rest: text }.number(),
+        _ => 0,
     }
-    if out[0] == b'r' {
-        let n = vectors::number(out, 0);
-        return n.value;
-    }
-    0
 }
 
-// The place n bytes after another.
-fn later(at: usize, n: u64) -> usize {
-    std::num::wrapping_add_u64(at as u64, n) as usize
+// A case at a file's start: its input, the text that is due, the file from the text's second byte on, and how many bytes the case has.
+#[derive(Clone, Copy)]
+struct Case<'a> {
+    input: &'a [u8],
+    text: &'a [u8],
+    later: &'a [u8],
+    end: usize,
 }
 
-// A case: the text of the input is `length` bytes of the file from a place on.
-fn text_is_due(
-    input: &[u8],
-    out: &mut [u8],
-    file: &[u8],
-    from: usize,
-    length: u64,
-    counts: &mut [u64; vectors::COUNTS],
-) {
-    mark(out);
-    match transcript::transcript(input, out) {
-        Transcribed::Length(n) => {
-            let number = answered(out);
-            tally(counts, 3, number, begins(out, file, later(from, 1), n));
-            if n as u64 == length {
-                if begins(out, file, from, n) {
-                    tally(counts, 1, number, untouched(out, n));
-                    return;
-                }
+impl<'a> Case<'a> {
+    // The lengths of the input and of the text, a byte, and then both. There is none where the file ends within.
+    fn first(file: &'a [u8]) -> Option<Case<'a>> {
+        let mut numbers = Numbers { rest: file };
+        let size = numbers.next()? as usize;
+        let length = numbers.next()? as usize;
+        let (_, body) = numbers.rest.split_first()?;
+        let (input, due) = body.split_at_checked(size)?;
+        let (text, rest) = due.split_at_checked(length)?;
+        Some(Case {
+            input,
+            text,
+            later: due.get(1..).unwrap_or(due),
+            end: file.len() - rest.len(),
+        })
+    }
+
+    // The text that is due is put, and nothing past it.
+    fn text_is_due(self, out: &mut [u8], counts: &mut Counts) {
+        match transcribed(self.input, out) {
+            Ok(n) => {
+                let put = part(out, n);
+                let number = answered(put);
+                let later = same_first(put, self.later, n);
+                counts.tally(Kind::TextLater as usize, number, later);
+                let same = n == self.text.len()
+                    && same_first(put, self.text, n)
+                    && untouched(&out[put.len()..]);
+                counts.tally(Kind::Text as usize, number, same);
             }
-            tally(counts, 1, number, false);
+            Err(reason) => counts.tally(Kind::Text as usize, u64::from(reason), false),
         }
-        Transcribed::Refused(reason) => {
-            tally(counts, 1, reason.number(), false);
-        }
+    }
+
+    // The output is too short, and stays.
+    fn output_is_short(self, out: &mut [u8], counts: &mut Counts) {
+        let number = number_of(&transcribed(self.input, out));
+        let same = number == 7 && untouched(out);
+        counts.tally(Kind::OutputShort as usize, number, same);
+    }
+
+    fn run(self, counts: &mut Counts) {
+        let mut out = transcript::room();
+        self.text_is_due(&mut out, counts);
+        self.output_is_short(part_mut(&mut out, MAX_TEXT - 1), counts);
     }
 }
 
-// A case whose output is too short.
-fn output_is_short(input: &[u8], out: &mut [u8], counts: &mut [u64; vectors::COUNTS]) {
-    mark(out);
-    match transcript::transcript(input, out) {
-        Transcribed::Length(_) => {
-            tally(counts, 2, 0, false);
-        }
-        Transcribed::Refused(reason) => {
-            let number = reason.number();
-            if number == 7 {
-                tally(counts, 2, number, untouched(out, 0));
-                return;
-            }
-            tally(counts, 2, number, false);
-        }
-    }
+// Runs the first of the cases, where there is one, and answers how many bytes it has.
+fn run_first(file: &[u8], counts: &mut Counts) -> Option<usize> {
+    let case = Case::first(file)?;
+    case.run(counts);
+    Some(case.end)
 }
 
-// The part of the file from a place on; none of it where the place is past the end.
-fn rest(file: &[u8], from: usize) -> &[u8] {
-    let at = vectors::within(from as u64, file.len());
-    &file[at..]
-}
-
-// The place after the case at the file's start. Where the case is not whole, that is past the file's end.
-fn case_end(file: &[u8]) -> usize {
-    let size = vectors::number(file, 0);
-    let length = vectors::number(file, size.next);
-    later(later(later(length.next, 1), size.value), length.value)
-}
-
-// Runs the case at the file's start.
-fn run_case(file: &[u8], counts: &mut [u64; vectors::COUNTS]) {
-    let mut out = transcript::room();
-    let size = vectors::number(file, 0);
-    let length = vectors::number(file, size.next);
-    let from = later(length.next, 1);
-    let n = vectors::within(size.value, file.len());
-    let input = byte_part(rest(file, from), n);
-    text_is_due(
-        input,
-        byte_part_mut(&mut out, MAX_TEXT),
-        file,
-        later(from, size.value),
-        length.value,
-        counts,
-    );
-    output_is_short(input, byte_part_mut(&mut out, MAX_TEXT - 1), counts);
-}
-
-// Runs the first of the cases that the buffer holds, where it is whole, and reads on; answers how many bytes the buffer holds then.
-fn run_first(
-    rt: &HostRuntime,
-    file: &mut [u8],
-    filled: usize,
-    counts: &mut [u64; vectors::COUNTS],
-) -> usize {
-    let end = case_end(byte_part(file, filled));
-    if filled < end {
-        return filled;
-    }
-    run_case(byte_part(file, filled), counts);
-    vectors::refill(rt, file, filled, end)
-}
-
-// Runs the cases of standard input, one after the other. Answers how many bytes are left at the end: none, but where a case is not whole, a case is
-// longer than the buffer, or there are more than a thousand cases.
-fn run_input(rt: &HostRuntime, file: &mut [u8], counts: &mut [u64; vectors::COUNTS]) -> usize {
-    let mut filled = vectors::refill(rt, file, 0, 0);
-    let mut cases: usize = 0;
-    while cases < 1000 {
-        if filled == 0 {
-            return filled;
-        }
-        filled = run_first(rt, file, filled, counts);
-        cases += 1;
-    }
-    filled
-}
-
+// Runs the cases of standard input, one after the other. What is left at the end is nothing, but where a case is not whole, a case is
+// longer than the input has room for, or there are more than a thousand cases.
 fn main(rt: HostRuntime) {
-    let mut file = io::large_buffer();
-    let mut counts = [0u64; vectors::COUNTS];
-    let left = run_input(&rt, &mut file, &mut counts);
-    vectors::print_tally(&rt, b"text", &counts, 1);
-    vectors::print_tally(&rt, b"output a byte short", &counts, 2);
-    vectors::print_tally(&rt, b"text a byte later", &counts, 3);
-    vectors::print_count(&rt, b"bytes not run", left as u64);
-    vectors::print_text(&rt, b"\n");
+    let mut input = Input::new(rt.stdin());
+    let mut counts = Counts::new();
+    for _ in 0..1000 {
+        let Some(done) = run_first(&input.bytes, &mut counts) else {
+            break;
+        };
+        input.advance(done);
+    }
+    for kind in [Kind::Text, Kind::OutputShort, Kind::TextLater] {
+        counts.print(&rt, kind.name(), kind as usize);
+    }
+    let left = input.bytes.len();
+    let _ = println!(rt; "bytes not run {left}");
 }

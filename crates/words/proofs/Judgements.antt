@@ -1,15 +1,19 @@
 -- Laws of judgements: what it tells that a chain of tests finds nothing, and how the first reason of a list is found entry by entry.
-use mathlib.Core.Path.{◌≡◌, refl, sym, ◌∙◌}
+use mathlib.Core.Path.{◌≡◌, refl, sym, ap, ◌∙◌}
 use mathlib.Core.Bool.{Bool, true, false, not}
 use mathlib.Core.Logic.{⊎_elim}
 use Prim.Native.Nat.{ℕ, zero, suc, ◌+◌, ◌-◌, ◌≤◌, ◌<◌}
 use native.Mathlib.Nat.{eq-or-lt_of_le, sub-zero}
 use native.Mathlib.Numerals.{add-one}
 use native.Mathlib.Omega.{arith}
+use Rattle.std.specs.Prelude.{Result, Err, IsErrAnd}
+use Rattle.std.proofs.lemmas.Result.{err_from_is_err_and}
 use Rattle.words.specs.declared.Refusal.{Refusal}
-use Rattle.words.specs.declared.Judgement.{Judgement}
-use Rattle.words.specs.declared.Judgement.TheVariants.{Fine, Declined}
-use Rattle.words.specs.Refusals.{decline_if, or_else, first_reason}
+use Rattle.words.specs.Refusals.{Judgement, Fine, Declined, decline_if, or_else, first_reason}
+
+-- what leaves a function at a `?` is the reason that was found
+pub handed_on : {T : Type 0} {k : Refusal} (r : Result T Refusal) → IsErrAnd r (λ e. e ≡ k) → r ≡ Err k
+handed_on r e = let p = err_from_is_err_and r e in p.1 ∙ ap Err p.2
 
 pub fine_not_declined : {k : Refusal} → Fine ≡ Declined k → ⊥
 fine_not_declined e = let z : ◌≡◌ {A = ℕ} 0 1 = cc in omega arith

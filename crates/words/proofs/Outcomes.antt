@@ -6,8 +6,7 @@ use mathlib.Core.List.{List}
 use native.Mathlib.Omega.{arith}
 use Rattle.words.specs.Answers.{Answer, done, declined}
 use Rattle.words.specs.Outcomes.{Outcome, outcome, answered, Leaves, unless_declined}
-use Rattle.words.specs.declared.Judgement.{Judgement}
-use Rattle.words.specs.declared.Judgement.TheVariants.{Fine, Declined}
+use Rattle.words.specs.Refusals.{Judgement, Fine, Declined}
 use Rattle.words.specs.declared.Refusal.{Refusal}
 use Rattle.words.proofs.Answers.{number_positive, declined_not_done}
 
@@ -27,6 +26,10 @@ module _ {L : Type 0} {j : Judgement} (values : List ℕ) (before after : L) whe
 
   pub leaves_declined : {reason : Refusal} → j ≡ Declined reason → Leaves (outcome j values before after) (declined reason) before
   leaves_declined e = rw e (record { answer = refl; left = refl })
+
+-- the same answer, said otherwise
+pub leaves_said : {L : Type 0} {due : Outcome L} {said given : Answer} {left : L} → given ≡ said → Leaves due said left → Leaves due given left
+leaves_said e k = record { answer = e ∙ k.answer; left = k.left }
 
 -- ---- what an answer tells of the judgement
 pub done_fine : {L : Type 0} (j : Judgement) (values : List ℕ) (before after : L) {given : List ℕ}

@@ -1,10 +1,7 @@
 -- What a call leaves (document 01, "Reasons to decline": "Each returns its number and changes nothing lent").
 use Rattle.std.specs.Prelude.{ℕ, ◌≡◌, List, []}
 use Rattle.words.specs.Answers.{Answer, done, declined}
-use Rattle.words.specs.declared.Judgement.{Judgement}
-use Rattle.words.specs.declared.Judgement.TheVariants.{Fine, Declined}
-use Rattle.words.specs.declared.Completed.{Completed}
-use Rattle.words.specs.declared.Completed.TheVariants.{Done, Refused}
+use Rattle.words.specs.Refusals.{Judgement, Fine, Declined}
 
 -- a call's answer, and what was lent to it as the call leaves it
 pub record Outcome (L : Type 0) : Type 0 where
@@ -26,9 +23,9 @@ pub record Leaves {L : Type 0} (due : Outcome L) (given : Answer) (after : L) : 
   pub left : after ≡ due.left
 
 -- what the answer of a call that has no value to give means
-abbrev pub completed_answer : Completed → Answer
-completed_answer Done = done []
-completed_answer (Refused reason) = declined reason
+abbrev pub completed_answer : Judgement → Answer
+completed_answer Fine = done []
+completed_answer (Declined reason) = declined reason
 
 -- two calls, the second only where the first did its work; else the reason of the first, and what would be lent to the second as it was
 abbrev pub unless_declined : {L : Type 0} → (first : Judgement) → (before : L) → (second : Outcome L) → Outcome L

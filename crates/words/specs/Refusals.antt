@@ -1,10 +1,8 @@
 -- Reasons to decline (document 01, the table under that heading).
-use Rattle.std.specs.Prelude.{ℕ, zero, suc, Bool, true, false}
+use Rattle.std.specs.Prelude.{ℕ, zero, suc, Bool, true, false, Result, Ok, Err}
 use Rattle.words.specs.declared.Refusal.{Refusal}
 use Rattle.words.specs.declared.Refusal.TheVariants.{Shape, Stranger, Wide, BareLog, CountFull, ListFull}
 use Rattle.words.specs.declared.Refusal.TheVariants.{Short, Unreduced, Flat, Torn, Repeat, Tally, ZeroDivisor, CascadeFull, OpenHold, NoHold, JobAbove}
-use Rattle.words.specs.declared.Judgement.{Judgement}
-use Rattle.words.specs.declared.Judgement.TheVariants.{Fine, Declined}
 
 -- the column "No."; 13 is request 1's: "div_mod with d = 0"; 14 is request 3's: "a new value and no unused cascade place"; 15 and 16 are
 -- request 6's: "an open hold at a used place", "confirm or drop at an unused position or one without a hold"; 17 is request 12's: "a job above the
@@ -27,6 +25,16 @@ refusal_number CascadeFull = 14
 refusal_number OpenHold = 15
 refusal_number NoHold = 16
 refusal_number JobAbove = 17
+
+-- what a test of the input finds: nothing against it, or the reason to decline
+abbrev pub Judgement : Type 0
+Judgement = Result (Unit {0}) Refusal
+
+pattern abbrev pub Fine : Judgement
+Fine = Ok tt
+
+pattern abbrev pub Declined : Refusal → Judgement
+Declined reason = Err reason
 
 -- declined for this reason where the test is true
 abbrev pub decline_if : Bool → Refusal → Judgement

@@ -27,67 +27,36 @@ pub const BYTE_ROWS: usize = 256;
 // No multiplicity is above this: p − 1.
 pub const MULTIPLICITY_LIMIT: u64 = 18446744069414584320;
 
-// Document 01's "Reasons to decline", in its order; then those of the requests.
-#[derive(Clone, Copy)]
+// Document 01's "Reasons to decline", in its order; then those of the requests. Each has its number in the documents.
+#[derive(Clone, Copy, PartialEq, Eq, Debug)]
 pub enum Refusal {
-    Shape,
-    Stranger,
-    Wide,
-    BareLog,
-    CountFull,
-    ListFull,
-    Short,
-    Unreduced,
-    Flat,
-    Torn,
-    Repeat,
-    Tally,
-    ZeroDivisor,
-    CascadeFull,
-    OpenHold,
-    NoHold,
-    JobAbove,
+    Shape = 1,
+    Stranger = 2,
+    Wide = 3,
+    BareLog = 4,
+    CountFull = 5,
+    ListFull = 6,
+    Short = 7,
+    Unreduced = 8,
+    Flat = 9,
+    Torn = 10,
+    Repeat = 11,
+    Tally = 12,
+    ZeroDivisor = 13,
+    CascadeFull = 14,
+    OpenHold = 15,
+    NoHold = 16,
+    JobAbove = 17,
 }
 
-impl Refusal {
-    // The reason's number in the documents.
-    pub fn number(self) -> u64
-        ensures { result ≡ refusal_number self }
+impl From<Refusal> for u64 {
+    ghost from_gives = { λ reason n. n ≡ refusal_number reason };
+
+    fn from(reason: Refusal) -> u64
+        ensures { result ≡ refusal_number reason }
     {
-        match self {
-            Refusal::Shape => 1,
-            Refusal::Stranger => 2,
-            Refusal::Wide => 3,
-            Refusal::BareLog => 4,
-            Refusal::CountFull => 5,
-            Refusal::ListFull => 6,
-            Refusal::Short => 7,
-            Refusal::Unreduced => 8,
-            Refusal::Flat => 9,
-            Refusal::Torn => 10,
-            Refusal::Repeat => 11,
-            Refusal::Tally => 12,
-            Refusal::ZeroDivisor => 13,
-            Refusal::CascadeFull => 14,
-            Refusal::OpenHold => 15,
-            Refusal::NoHold => 16,
-            Refusal::JobAbove => 17,
-        }
+        reason as u64
     }
-}
-
-// What a test of the input finds: nothing against it, or a reason to decline.
-#[derive(Clone, Copy)]
-pub enum Judgement {
-    Fine,
-    Declined(Refusal),
-}
-
-// The answer of a call that has no value to give: the work is done, or why it is declined.
-#[derive(Clone, Copy)]
-pub enum Completed {
-    Done,
-    Refused(Refusal),
 }
 
 // The byte at a place, as a word.
@@ -125,10 +94,8 @@ pub fn put_le(bytes: &mut [u8], at: usize, k: usize, n: u64)
     ensures { bytes.new ≡ sets bytes.old at (le k n) }
 {
     let mut rest = n;
-    let mut i = 0;
-    while i < k {
+    for i in 0..k {
         bytes[at + i] = (rest % 256) as u8;
         rest /= 256;
-        i += 1;
     }
 }

@@ -1,6 +1,7 @@
 -- Extension elements (document 01, "Elements"): three words a, b, c stand for a + b·X + c·X², with X³ = X − 1. Every operation
 -- takes any words and answers words below p.
-use Rattle.std.specs.Prelude.{ℕ, ◌%◌, ◌<◌, ◌≡◌, Bool, ◌&&◌, eqb}
+use Rattle.std.specs.Prelude.{ℕ, ◌%◌, ◌<◌, ◌≡◌, Bool, ◌&&◌, List, [], ◌∷◌, eqb}
+use Rattle.std.specs.Cmp.{IsEquivalence, on_equiv, nat_eq_equiv, and_equiv}
 use Rattle.field.specs.Elements.{p, add_f, sub_f, mul_f}
 
 -- "An extension element is (a, b, c) for a + b·X + c·X^2"
@@ -11,6 +12,10 @@ pub record Ext : Type 0 where
 
 abbrev pub ext : ℕ → ℕ → ℕ → Ext
 ext x y z = record { a = x; b = y; c = z }
+
+-- its three words
+abbrev pub words_x : Ext → List ℕ
+words_x x = x.a ∷ x.b ∷ x.c ∷ []
 
 abbrev pub zero_x : Ext
 zero_x = ext 0 0 0
@@ -75,6 +80,12 @@ pub record InverseOrZeroX (x r : Ext) : Type 0 where
 -- Elements are told apart by their words modulo p
 unfoldable pub equal_x : Ext → Ext → Bool
 equal_x x y = eqb (x.a % p) (y.a % p) && (eqb (x.b % p) (y.b % p) && eqb (x.c % p) (y.c % p))
+
+-- which is an equivalence
+pub equal_x_equivalence : IsEquivalence equal_x
+unfolding equal_x
+equal_x_equivalence =
+    and_equiv (on_equiv (λ x. x.a % p) nat_eq_equiv) (and_equiv (on_equiv (λ x. x.b % p) nat_eq_equiv) (on_equiv (λ x. x.c % p) nat_eq_equiv))
 
 unfoldable pub is_zero_x : Ext → Bool
 is_zero_x x = equal_x x zero_x

@@ -1,8 +1,7 @@
--- What the loop of `put_column` keeps, and what falls with each turn.
-use Prim.Native.Nat.{◌≤◌, ◌-◌, ◌+◌, ◌*◌}
+-- What the loop of `put_column` keeps.
+use Prim.Native.Nat.{◌-◌, ◌+◌, ◌*◌}
 use mathlib.Core.Path.{◌≡◌}
 use mathlib.Core.List.{flat_map}
-use lib.ListN.{length}
 use lib.Seq.{sets}
 use Rattle.words.specs.Places.{places_from}
 use Rattle.archive.specs.Archives.{word_width}
@@ -11,9 +10,5 @@ use Rattle.archive.proofs.put_column.Given as goal
 
 abbrev pub invariant-loop-i : goal.invariant-loop-i
 invariant-loop-i l =
-    (l.i ≤ l.rows) × (length l.out ≡ length l.initial.out)
-    × (sets l.initial.out l.at (column_bytes l.width l.cells l.rows l.c)
-    ≡ sets l.out (l.at + word_width * l.i) (flat_map (cell_bytes l.width l.cells l.rows l.c) (places_from l.i (l.rows - l.i))))
-
-abbrev pub decreases-loop-i : goal.decreases-loop-i
-decreases-loop-i l = l.rows - l.i
+    sets l.initial.out l.at (column_bytes l.width l.cells l.rows l.c)
+    ≡ sets l.out (l.at + word_width * l.i) (flat_map (cell_bytes l.width l.cells l.rows l.c) (places_from l.i (l.rows - l.i)))

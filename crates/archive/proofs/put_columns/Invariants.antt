@@ -1,8 +1,7 @@
--- What the loop of `put_columns` keeps, and what falls with each turn.
-use Prim.Native.Nat.{◌≤◌, ◌-◌, ◌+◌, ◌*◌}
+-- What the loop of `put_columns` keeps.
+use Prim.Native.Nat.{◌-◌, ◌+◌, ◌*◌}
 use mathlib.Core.Path.{◌≡◌}
 use mathlib.Core.List.{flat_map}
-use lib.ListN.{length}
 use lib.Seq.{sets}
 use Rattle.words.specs.LittleEndian.{le}
 use Rattle.words.specs.Places.{places_from}
@@ -12,9 +11,5 @@ use Rattle.archive.proofs.put_columns.Given as goal
 
 abbrev pub invariant-loop-c : goal.invariant-loop-c
 invariant-loop-c l =
-    (l.c ≤ l.width) × (length l.out ≡ length l.initial.out)
-    × (sets l.initial.out l.at (flat_map (le word_width) (columns l.width l.cells l.rows))
-    ≡ sets l.out (l.at + word_width * l.rows * l.c) (flat_map (column_bytes l.width l.cells l.rows) (places_from l.c (l.width - l.c))))
-
-abbrev pub decreases-loop-c : goal.decreases-loop-c
-decreases-loop-c l = l.width - l.c
+    sets l.initial.out l.at (flat_map (le word_width) (columns l.width l.cells l.rows))
+    ≡ sets l.out (l.at + word_width * l.rows * l.c) (flat_map (column_bytes l.width l.cells l.rows) (places_from l.c (l.width - l.c)))

@@ -1,8 +1,7 @@
--- What the loop of `put_row` keeps, and what falls with each turn.
-use Prim.Native.Nat.{ℕ, ◌≤◌, ◌-◌, ◌+◌, ◌*◌}
+-- What the loop of `put_row` keeps.
+use Prim.Native.Nat.{ℕ, ◌-◌, ◌+◌, ◌*◌}
 use mathlib.Core.Path.{◌≡◌}
 use mathlib.Core.List.{List, map}
-use lib.ListN.{length}
 use lib.Seq.{sets}
 use Rattle.words.specs.Places.{places_from, places}
 use Rattle.archive.specs.Archives.{archived_word}
@@ -14,9 +13,5 @@ cell bytes from rows i c = archived_word bytes (from + (rows * c + i))
 
 abbrev pub invariant-loop-c : goal.invariant-loop-c
 invariant-loop-c l =
-    (l.c ≤ l.width) × (length l.to ≡ length l.initial.to)
-    × (sets l.initial.to (l.width * l.i) (map (cell l.bytes l.from l.rows l.i) (places l.width))
-    ≡ sets l.to (l.width * l.i + l.c) (map (cell l.bytes l.from l.rows l.i) (places_from l.c (l.width - l.c))))
-
-abbrev pub decreases-loop-c : goal.decreases-loop-c
-decreases-loop-c l = l.width - l.c
+    sets l.initial.to (l.width * l.i) (map (cell l.bytes l.from l.rows l.i) (places l.width))
+    ≡ sets l.to (l.width * l.i + l.c) (map (cell l.bytes l.from l.rows l.i) (places_from l.c (l.width - l.c)))

@@ -1,8 +1,7 @@
--- What the loop of `put_rows` keeps, and what falls with each turn.
-use Prim.Native.Nat.{ℕ, ◌≤◌, ◌-◌, ◌+◌, ◌*◌}
+-- What the loop of `put_rows` keeps.
+use Prim.Native.Nat.{ℕ, ◌-◌, ◌+◌, ◌*◌}
 use mathlib.Core.Path.{◌≡◌}
 use mathlib.Core.List.{List, map, flat_map}
-use lib.ListN.{length}
 use lib.Seq.{sets}
 use Rattle.words.specs.Places.{places_from, places}
 use Rattle.archive.specs.Archives.{archived_word, rows_from}
@@ -14,8 +13,4 @@ row bytes from width rows i = map (λ c. archived_word bytes (from + (rows * c +
 
 abbrev pub invariant-loop-i : goal.invariant-loop-i
 invariant-loop-i l =
-    (l.i ≤ l.rows) × (length l.to ≡ length l.initial.to)
-    × (sets l.initial.to 0 (rows_from l.bytes l.from l.width l.rows) ≡ sets l.to (0 + l.width * l.i) (flat_map (row l.bytes l.from l.width l.rows) (places_from l.i (l.rows - l.i))))
-
-abbrev pub decreases-loop-i : goal.decreases-loop-i
-decreases-loop-i l = l.rows - l.i
+    sets l.initial.to 0 (rows_from l.bytes l.from l.width l.rows) ≡ sets l.to (0 + l.width * l.i) (flat_map (row l.bytes l.from l.width l.rows) (places_from l.i (l.rows - l.i)))

@@ -1,39 +1,31 @@
--- `archive::words_reduced` meets its contract. The loop's invariant: each word passed is below p. A word p or more decides the answer, and at the end all
--- words have been passed. Assumes nothing.
-use Prim.Native.Nat.{ℕ, ◌+◌, ◌<◌, ◌≤◌}
-use mathlib.Core.Path.{◌≡◌}
-use mathlib.Core.Logic.{⊎_elim}
-use native.Mathlib.Nat.{eq-or-lt_of_le}
-use native.Mathlib.Omega.{arith}
+-- `archive::words_reduced` meets its contract: `all` tells that each word of the columns is below p, or of one that is not. Assumes nothing.
+use Rattle.std.proofs.Common.{◌≡◌, ◌<◌, ◌≤◌, ◌+◌, ◌*◌, ◌-◌, ℕ, Bool, true, false, List, length, get_or, MatchBool, ap, ◌∙◌, arith, rules, tests}
+use Rattle.std.specs.List.{HoldsAt, AllWithin, range_with_len}
+use Rattle.std.proofs.lemmas.List.FromFn.{get_or-range_with_len, length-range_with_len}
+use Rattle.std.proofs.lemmas.Iterator.{cases_from_all, YieldsList-from_range}
 use Rattle.field.specs.Elements.{p}
-use Rattle.archive.specs.Archives.{archived_word}
+use Rattle.table.specs.Columns.{main_width, aux_width, all_reduced}
+use Rattle.archive.specs.Archives.{archived_word, archived_rows, archived_words}
 use Rattle.archive.proofs.Columns.{words_passed, word_found}
 use Rattle.archive.proofs.words_reduced.Goals as goal
 
-pub loop-k-init : goal.loop-k-init
-loop-k-init c = (omega arith, omega arith, λ j a b. absurd (omega arith))
-
-pub returns-then-word_at-ge-P : goal.returns-then-word_at-ge-P
-unfolding archived_word
-returns-then-word_at-ge-P c =
-    let e = c.word_at.ensures in
-    let above = c.if-word_at-ge-P.true in
-    word_found c.args.bytes.now c.loop-k.k (omega arith) (omega arith) (omega arith)
-
-pub loop-k-preserved : goal.loop-k-preserved
-unfolding archived_word
-loop-k-preserved c =
-    let e = c.word_at.ensures in
-    let left = c.if-word_at-ge-P.false in
-    let v : archived_word c.args.bytes.now c.loop-k.k < p = omega arith in (
-      omega arith,
-      omega arith,
-      λ j a b. ⊎_elim (λ (same : j ≡ c.loop-k.k). rw same v) (λ l. c.loop-k.invariant.2 j a l) (eq-or-lt_of_le (lt_suc b)),
-    )
-  where
-    lt_suc : {j k : ℕ} → j < k + 1 → j ≤ k
-    lt_suc h = omega arith
+-- the words of the columns, by their numbers
+module _ (s : List ℕ) (n : ℕ) (many : n ≡ (main_width + aux_width) * archived_rows s) where
+  told : (r : Bool) → MatchBool r (AllWithin (λ k. archived_word s k < p) (range_with_len 1 n) 0 (length (range_with_len 1 n)))
+      ((i : ℕ) × (i < length (range_with_len 1 n)) × HoldsAt (λ k. p ≤ archived_word s k) (range_with_len 1 n) i)
+      → r ≡ all_reduced (archived_words s)
+  told true f =
+      words_passed s (λ k a b.
+      let at : get_or (range_with_len 1 n) (k - 1) 0 ≡ k = get_or-range_with_len 1 n (k - 1) 0 (omega arith) ∙ omega arith in
+      rw at at (f (k - 1) 0 (omega arith) (omega (arith, length-range_with_len 1 n))))
+  told false w =
+      let low : w.0 < n = omega (arith, w.1, length-range_with_len 1 n) in
+      word_found s (1 + w.0) (omega arith) (omega arith) (rw (get_or-range_with_len 1 n w.0 0 low) at (w.2 0))
 
 pub returns : goal.returns
+unfolding archived_word
 returns c =
-    words_passed c.args.bytes.now (λ k a b. c.loop-k.invariant.2 k a (omega arith))
+    let n = (main_width + aux_width) * c.args.rows in
+    let cases = cases_from_all _ _ _ (λ k. archived_word c.args.bytes.now k < p) (λ k. p ≤ archived_word c.args.bytes.now k) c.all.ensures.ran
+    (YieldsList-from_range 1 (1 + n) n (cc) (omega arith)) (λ x q k. search (rules, tests)) (λ x q k. search (rules, tests)) in
+    told c.args.bytes.now n (ap (λ (k : ℕ). (main_width + aux_width) * k) c.requires.0) _ cases

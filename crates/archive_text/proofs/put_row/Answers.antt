@@ -1,15 +1,15 @@
--- `archive_text::put_row` meets its contract: the words that are read are those of the row and of its sum.
-use borrow.Author.Rules.{rules}
-use Rattle.table.specs.Columns.{row_at, element_at}
-use Rattle.archive_text.proofs.Rows.{line_bound}
+-- `archive_text::put_row` meets its contract: the words that are copied are those of the row and of its sum.
+use native.Mathlib.Omega.{arith}
+use Rattle.archive_text.proofs.Rows.{line_bound, words_copied}
 use Rattle.archive_text.proofs.put_row.Goals as goal
 
 pub put_row-requires : goal.put_row-requires
-unfolding row_at element_at
 put_row-requires c =
-    let b = line_bound c.args.table.now c.args.aux.now c.args.row in
-    (search rules, search rules)
+    let e = words_copied _ _ _ c.requires.0 c.requires.1 c.copy_from_slice.ensures.after c.copy_from_slice-2.ensures.after in
+    rw e
+    (record { not_empty = omega arith; room = omega (arith, c.requires.2, line_bound c.args.table.now c.args.aux.now c.args.row) })
 
 pub returns : goal.returns
-unfolding row_at element_at
-returns c = c.put_row.ensures
+returns c =
+    let e = words_copied _ _ _ c.requires.0 c.requires.1 c.copy_from_slice.ensures.after c.copy_from_slice-2.ensures.after in
+    rw e at c.put_row.ensures

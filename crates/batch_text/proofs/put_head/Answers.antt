@@ -1,26 +1,24 @@
 -- `batch_text::put_head` meets its contract: the number of jobs, and the names of the columns.
 use native.Mathlib.Omega.{arith}
-use Rattle.text.proofs.Putting.{put_then}
+use Rattle.text.proofs.Adding.{adds_then, reached}
 use Rattle.batch_text.specs.Table.{head_text}
-use Rattle.batch_text.proofs.Tables.{column_bound, put_more}
+use Rattle.batch_text.proofs.Tables.{column_bound}
 use Rattle.batch_text.proofs.put_head.Goals as goal
 
-pub put_bytes-after_label-requires : goal.put_bytes-after_label-requires
-put_bytes-after_label-requires c =
-    omega (arith, c.requires)
+pub put_str-requires : goal.put_str-requires
+put_str-requires c = omega (arith, c.requires)
 
-pub put_column-after_jobs-requires : goal.put_column-after_jobs-requires
-put_column-after_jobs-requires c =
-    let r1 = put_more 5 251 c.put_bytes-after_label.ensures (omega arith) c.requires in
-    omega (arith, column_bound 1 c.args.jobs)
+pub put_column-requires : goal.put_column-requires
+put_column-requires c =
+    let r1 = reached c.put_str.ensures in
+    omega (arith, c.requires, column_bound 1 c.args.jobs, r1.len, r1.size)
 
-pub put_bytes-requires : goal.put_bytes-requires
-put_bytes-requires c =
-    let r1 = put_more 5 251 c.put_bytes-after_label.ensures (omega arith) c.requires in
-    let r2 = put_more 21 230 c.put_column-after_jobs.ensures (column_bound 1 c.args.jobs) r1 in
-    omega arith
+pub put_str-requires-2 : goal.put_str-requires-2
+put_str-requires-2 c =
+    let r1 = reached c.put_str.ensures in
+    let r2 = reached c.put_column.ensures in
+    omega (arith, c.requires, column_bound 1 c.args.jobs, r1.len, r1.size, r2.len, r2.size)
 
 pub returns : goal.returns
 unfolding head_text
-returns c =
-    put_then c.put_bytes-after_label.ensures (put_then c.put_column-after_jobs.ensures c.put_bytes.ensures)
+returns c = adds_then c.put_str.ensures (adds_then c.put_column.ensures c.put_str-2.ensures)

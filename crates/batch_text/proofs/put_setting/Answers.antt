@@ -7,13 +7,13 @@ use Rattle.batch_text.proofs.put_setting.Goals as goal
 
 pub put_totals-requires : goal.put_totals-requires
 put_totals-requires c =
-    (c.requires, trial_bounds c.args.jobs.now c.args.setting (ap trial_answer (sym c.in-Totals.is) ∙ c.try_setting.ensures))
+    (c.requires, trial_bounds c.args.jobs.now c.args.setting (ap trial_answer (sym c.in-Ok.is) ∙ c.try_setting.ensures))
 
-pub returns-in-Refused : goal.returns-in-Refused
-returns-in-Refused c =
-    refusal_due c.args.jobs.now c.args.setting c.in-Refused.reason (ap trial_answer (sym c.in-Refused.is) ∙ c.try_setting.ensures) c.number.ensures
+pub returns-in-Err : goal.returns-in-Err
+returns-in-Err c =
+    refusal_due c.args.jobs.now c.args.setting c.in-Err.reason (ap trial_answer (sym c.in-Err.is) ∙ c.try_setting.ensures) c.from.ensures
     c.put_refusal.ensures
 
-pub returns-in-Totals : goal.returns-in-Totals
-returns-in-Totals c =
-    totals_due c.args.jobs.now c.args.setting (ap trial_answer (sym c.in-Totals.is) ∙ c.try_setting.ensures) c.put_totals.ensures
+pub returns-in-Ok : goal.returns-in-Ok
+returns-in-Ok c =
+    totals_due c.args.jobs.now c.args.setting (ap trial_answer (sym c.in-Ok.is) ∙ c.try_setting.ensures) c.put_totals.ensures

@@ -4,15 +4,16 @@ use mathlib.Core.Path.{◌≡◌, sym}
 use native.Mathlib.Omega.{arith}
 use lib.ListN.{take, drop}
 use lib.Seq.{length-take-le}
+use Rattle.text.proofs.Adding.{adds_same}
 use Rattle.batch_text.specs.Sheet.{most_settings}
-use Rattle.batch_text.proofs.Tables.{put_same, sheet_none, sheet_some}
+use Rattle.batch_text.proofs.Tables.{sheet_none, sheet_some}
 use borrow.Author.Rules.{rules}
 use Rattle.batch_text.proofs.put_sheet.Goals as goal
 
 pub returns-then-settings-eq0 : goal.returns-then-settings-eq0
 returns-then-settings-eq0 c =
-    put_same (sheet_none (take c.args.settings c.args.words.now) (take c.args.jobs (drop most_settings c.args.words.now)) (length-take-le c.args.settings c.args.words.now (search rules)) c.if-settings-eq0.true)
-    c.put_bytes.ensures
+    adds_same (sheet_none (take c.args.settings c.args.words.now) (take c.args.jobs (drop most_settings c.args.words.now)) (length-take-le c.args.settings c.args.words.now (search rules)) c.if-settings-eq0.true)
+    c.put_str.ensures
 
 pub slice_bounds-put_table-end : goal.slice_bounds-put_table-end
 slice_bounds-put_table-end c =
@@ -25,5 +26,5 @@ put_table-requires c =
 pub returns : goal.returns
 returns c =
     let e : most_settings + c.args.jobs - most_settings ≡ c.args.jobs = omega arith in
-    put_same (sheet_some (take c.args.settings c.args.words.now) (take c.args.jobs (drop most_settings c.args.words.now)) (length-take-le c.args.settings c.args.words.now (search rules)) c.if-settings-eq0.false)
+    adds_same (sheet_some (take c.args.settings c.args.words.now) (take c.args.jobs (drop most_settings c.args.words.now)) (length-take-le c.args.settings c.args.words.now (search rules)) c.if-settings-eq0.false)
     (rw e at c.put_table.ensures)

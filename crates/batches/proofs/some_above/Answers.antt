@@ -1,20 +1,17 @@
--- `batches::some_above` meets its contract. The loop's invariant: a job above the setting stands at a place from i on, if anywhere.
--- Assumes nothing.
-use mathlib.Core.Path.{refl, sym, ◌∙◌}
-use borrow.Author.Rules.{rules}
-use Rattle.batches.proofs.Walking.{above_hit, above_miss, above_none}
+-- `batches::some_above` meets its contract: `any` tells whether a job's test holds. Assumes nothing.
+use Rattle.std.proofs.Common.{◌≡◌, ℕ, Bool, List, [], ◌∷◌, refl, ap, ◌∙◌, rules, tests, ltb, ◌||◌}
+use Rattle.std.specs.List.{list_any}
+use Rattle.std.proofs.lemmas.Iterator.{YieldsList-from_slice}
+use Rattle.std.proofs.lemmas.Iterator.Search.{any_from_yields_List}
+use Rattle.batches.specs.Batches.{some_above}
 use Rattle.batches.proofs.some_above.Goals as goal
 
-pub loop-i-init : goal.loop-i-init
-loop-i-init c = (search rules, refl)
-
-pub returns-then-setting-jobs : goal.returns-then-setting-jobs
-returns-then-setting-jobs c =
-    sym (c.loop-i.invariant.1 ∙ above_hit _ _ c.loop-i.i (search rules) c.if-setting-jobs.true)
-
-pub loop-i-preserved : goal.loop-i-preserved
-loop-i-preserved c =
-    (search rules, c.loop-i.invariant.1 ∙ above_miss _ _ c.loop-i.i (search rules) c.if-setting-jobs.false)
+any_above : (setting : ℕ) (jobs : List ℕ) → list_any (ltb setting) jobs ≡ some_above setting jobs
+unfolding some_above
+any_above setting [] = refl
+any_above setting (height ∷ jobs) = ap (λ (b : Bool). ltb setting height || b) (any_above setting jobs)
 
 pub returns : goal.returns
-returns c = sym (c.loop-i.invariant.1 ∙ above_none _ _ c.loop-i.i (search rules))
+returns c =
+    any_from_yields_List (ltb c.args.setting) _ _ _ c.any.ensures.ran (YieldsList-from_slice c.args.jobs.now cc) (λ x b q k. search (rules, tests))
+    ∙ any_above _ _

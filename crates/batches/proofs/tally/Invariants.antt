@@ -1,11 +1,10 @@
--- What the loop of `tally` keeps, and what falls with each turn.
-use Prim.Native.Nat.{◌-◌}
-use lib.ListN.{length}
+-- What the loop of `tally` keeps: the totals so far, and those of the batches that are left, are the totals of all.
+use Rattle.batches.specs.Batches.{batches_of}
+use Rattle.batches.specs.Left.{batches_left}
 use Rattle.batches.proofs.Walking.{Tallied}
 use Rattle.batches.proofs.tally.Given as goal
 
-abbrev pub invariant-loop-i : goal.invariant-loop-i
-invariant-loop-i l = Tallied l.setting l.jobs l.count l.before l.padding l.rows l.i
-
-abbrev pub decreases-loop-i : goal.decreases-loop-i
-decreases-loop-i l = length l.jobs - l.i
+abbrev pub invariant-loop-batch : goal.invariant-loop-batch
+invariant-loop-batch l =
+    (goal.iterator-loop-batch).can_next l.batch-iterator × (goal.iterator-loop-batch).is_finite l.batch-iterator
+    × Tallied (batches_of l.setting l.jobs) (batches_left l.batch-iterator) l.totals.count l.totals.rows l.totals.padding

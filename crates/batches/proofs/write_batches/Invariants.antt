@@ -1,11 +1,10 @@
--- What the loop of `write_batches` keeps, and what falls with each turn.
-use Prim.Native.Nat.{◌-◌}
-use lib.ListN.{length}
+-- What the loop of `write_batches` keeps: the batches that are left, written from the next place on, make what is due.
+use Rattle.batches.specs.Batches.{batches_of}
+use Rattle.batches.specs.Left.{batches_left}
 use Rattle.batches.proofs.Walking.{Written}
 use Rattle.batches.proofs.write_batches.Given as goal
 
-abbrev pub invariant-loop-i : goal.invariant-loop-i
-invariant-loop-i l = Written l.setting l.jobs l.initial.results l.results l.place l.members l.rows l.i
-
-abbrev pub decreases-loop-i : goal.decreases-loop-i
-decreases-loop-i l = length l.jobs - l.i
+abbrev pub invariant-loop-place : goal.invariant-loop-place
+invariant-loop-place l =
+    (goal.iterator-loop-place).can_next l.place-iterator × (goal.iterator-loop-place).is_finite l.place-iterator
+    × Written (batches_of l.setting l.jobs) (batches_left l.place-iterator.iter) l.initial.results l.results l.place-iterator.count

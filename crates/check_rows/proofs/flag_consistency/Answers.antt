@@ -1,4 +1,5 @@
--- `check_rows::flag_consistency` meets its contract: each answer is made as its definition says. Assumes nothing.
+-- `check_rows::flag_consistency` meets its contract: each value is made as its definition says. Assumes nothing.
+use Rattle.std.proofs.Common.{rules}
 use Rattle.air.specs.Constraints.{copy_flag_is_bit}
 use Rattle.air.specs.Constraints.{copy_flag_is_0_or_bits_is_0}
 use Rattle.air.specs.Constraints.{bits_minus_33_inv_is_inverse_of_bits_minus_33}
@@ -8,11 +9,4 @@ use Rattle.check_rows.proofs.flag_consistency.Goals as goal
 
 pub returns : goal.returns
 unfolding row_of copy_flag_is_bit copy_flag_is_0_or_bits_is_0 bits_minus_33_inv_is_inverse_of_bits_minus_33 if_copy_flag_is_0_then_lookup_multiplicity_is_0
-returns c =
-    record {
-      copy_flag_minus_1 = rw c.sub-copy_flag_minus_1.ensures;
-      copy_flag_is_bit = rw (c.mul.ensures, c.sub.ensures);
-      copy_flag_is_0_or_bits_is_0 = rw c.mul-2.ensures;
-      bits_minus_33_inv_is_inverse_of_bits_minus_33 = rw (c.sub-3.ensures, c.mul-3.ensures, c.sub-2.ensures);
-      if_copy_flag_is_0_then_lookup_multiplicity_is_0 = rw (c.mul-4.ensures, c.sub-copy_flag_minus_1.ensures);
-    }
+returns c = search rules

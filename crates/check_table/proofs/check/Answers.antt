@@ -1,51 +1,32 @@
--- `check_table::check` meets its contract. Where nothing is refused, the loop goes through the groups: the whole search is the search from this
--- group on, and the measure is the groups that are left. The clauses on zero are the claims over the definition. Assumes nothing.
-use mathlib.Core.Path.{sym, ◌∙◌}
-use native.Mathlib.Omega.{arith}
-use Rattle.check_table.proofs.Groups.{groups_done}
+-- `check_table::check` meets its contract: the reason is the definition's, or the search is. The clauses on zero are the claims over the definition.
+-- Assumes nothing.
+use Rattle.std.proofs.Common.{arith, Ok, sym, ap, ◌∙◌}
+use Rattle.words.proofs.Judgements.{handed_on}
 use Rattle.air.proofs.Judging.{accepted}
-use Rattle.check_table.specs.declared.Verdict.TheVariants.{Zero, Nonzero, Refused}
-use Rattle.check_table.proofs.Joined.{refused, not_refused, group_found, group_passed}
-use Rattle.check_table.proofs.Clauses.{clauses}
+use Rattle.check_table.specs.Verdicts.{verdict_answer}
+use Rattle.check_table.proofs.Joined.{refused, searched}
+use Rattle.check_table.proofs.Clauses.{zero_iff, sound, sum}
 use Rattle.check_table.proofs.check.Goals as goal
 
-pub returns-in-Declined : goal.returns-in-Declined
-returns-in-Declined c = let all =
-    clauses _ _ _ (Refused c.in-Declined.reason) (refused _ _ _ c.judge-judgement.ensures c.in-Declined.is) in record {
-      exact = all.0;
-      zero_iff = all.1.0;
-      sound = all.1.1.0;
-      sum = all.1.1.1;
+pub returns-in_err-judge : goal.returns-in_err-judge
+returns-in_err-judge c =
+    let exact = ap verdict_answer (handed_on _ c.from_residual.ensures.1) ∙ refused _ _ _ c.in_err-judge.ensures in record {
+      exact = exact;
+      zero_iff = zero_iff _ _ _ c.from_residual.result exact;
+      sound = sound _ _ _ c.from_residual.result exact;
+      sum = sum _ _ _ c.from_residual.result exact;
     }
 
-pub groups-init : goal.groups-init
-groups-init c = (omega arith, not_refused _ _ _ c.judge-judgement.ensures c.in_default.is)
+pub search-requires : goal.search-requires
+search-requires c =
+    let ok = accepted _ _ _ (sym c.in_ok-judge.ensures) in
+    (ok.some_row, (omega arith, omega arith))
 
-pub search_group-found-requires : goal.search_group-found-requires
-search_group-found-requires c =
-    let ok = accepted _ _ _ (sym c.judge-judgement.ensures ∙ c.in_default.is) in
-    (omega arith, (ok.some_row, (omega arith, omega arith)))
-
-pub groups-preserved : goal.groups-preserved
-groups-preserved c =
-    (omega arith, c.groups.invariant.1 ∙ group_passed _ _ _ c.groups.group (omega arith) c.search_group-found.ensures c.in_default-found.is)
-
-pub returns-then-group-eq4 : goal.returns-then-group-eq4
-returns-then-group-eq4 c = let all =
-    clauses _ _ _ Zero (sym (c.groups.invariant.1 ∙ groups_done _ _ _ c.groups.group (omega arith))) in record {
-      exact = all.0;
-      zero_iff = all.1.0;
-      sound = all.1.1.0;
-      sum = all.1.1.1;
-    }
-
-pub returns-in-Nonzero : goal.returns-in-Nonzero
-returns-in-Nonzero c =
-    let all =
-    clauses _ _ _ (Nonzero c.in-Nonzero.group c.in-Nonzero.row c.in-Nonzero.index c.in-Nonzero.value)
-    (sym (c.groups.invariant.1 ∙ group_found _ _ _ c.groups.group (omega arith) c.search_group-found.ensures c.in-Nonzero.is)) in record {
-      exact = all.0;
-      zero_iff = all.1.0;
-      sound = all.1.1.0;
-      sum = all.1.1.1;
+pub returns : goal.returns
+returns c =
+    let exact = searched _ _ _ c.search.result c.in_ok-judge.ensures c.search.ensures in record {
+      exact = exact;
+      zero_iff = zero_iff _ _ _ (Ok c.search.result) exact;
+      sound = sound _ _ _ (Ok c.search.result) exact;
+      sum = sum _ _ _ (Ok c.search.result) exact;
     }

@@ -6,7 +6,7 @@ use mathlib.Core.List.{List}
 use lib.Dec.{eqb}
 use borrow.Author.Rules.{rules}
 use borrow.Author.Tests.{not-true, not-false, eq-eqb, ne_eqb}
-use Rattle.words.specs.declared.Judgement.TheVariants.{Fine, Declined}
+use Rattle.words.specs.Refusals.{Fine, Declined}
 use Rattle.words.specs.declared.Refusal.TheVariants.{Shape, Short, Unreduced}
 use Rattle.table.specs.Columns.{row_count, table_shape, aux_shape, all_reduced}
 use Rattle.table.specs.Challenges.{challenges_shape}

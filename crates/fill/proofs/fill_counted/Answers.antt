@@ -5,9 +5,9 @@ use native.Mathlib.Omega.{arith}
 use borrow.Author.Rules.{rules}
 use Rattle.list.specs.Lists.{U32List, judge_list}
 use Rattle.list.specs.Heights.{list_height}
+use Rattle.list.specs.Holds.{section_list}
 use Rattle.list.proofs.CountedStores.{lent_few, counted_lent, lent_keys, lent_counts}
 use Rattle.fill.specs.Filling.{filled}
-use Rattle.fill.specs.declared.Filled.TheVariants.{Rows}
 use Rattle.fill.proofs.fill_counted.Goals as goal
 
 pub overflow_mul-end : goal.overflow_mul-end
@@ -28,6 +28,7 @@ slice_bounds-fill_sections-end-2 c =
     lent_counts _ c.counted-copy.ensures.value _ c.counted-copy.ensures.to_multiplicities_after refl c.requires.used_le_max_places.0
 
 pub fill_sections-requires : goal.fill_sections-requires
+unfolding section_list
 fill_sections-requires c =
     let lent = counted_lent _ c.counted-copy.ensures.value _ _ c.counted-copy.ensures.to_keys_after c.counted-copy.ensures.to_multiplicities_after refl refl c.requires.used_le_max_places.0 in
     let high = ap list_height lent in record {
@@ -36,8 +37,10 @@ fill_sections-requires c =
     }
 
 pub returns : goal.returns
+unfolding section_list
 returns c =
-    let lent = counted_lent _ c.counted-copy.ensures.value _ _ c.counted-copy.ensures.to_keys_after c.counted-copy.ensures.to_multiplicities_after refl refl c.requires.used_le_max_places.0 in record {
-      value = c.fill_sections.ensures.value ∙ ap (λ (l : U32List). Rows (list_height l)) lent;
+    let lent = counted_lent _ c.counted-copy.ensures.value _ _ c.counted-copy.ensures.to_keys_after c.counted-copy.ensures.to_multiplicities_after refl refl c.requires.used_le_max_places.0 in
+    let high = ap list_height lent in record {
+      value = c.fill_sections.ensures.value ∙ high;
       table_after = c.fill_sections.ensures.table_after ∙ ap (λ (l : U32List). filled l c.args.table.now) lent;
     }

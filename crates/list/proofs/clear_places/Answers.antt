@@ -1,33 +1,23 @@
--- `list::clear_places` meets its contract. The invariant: the stores that are left, made to the words as they are, make what is asked. Assumes nothing.
-use Prim.Native.Nat.{ℕ, suc, ◌+◌, ◌-◌, ◌≤◌, ◌<◌}
-use mathlib.Core.Path.{◌≡◌, refl, sym, ◌∙◌}
-use mathlib.Core.List.{List}
-use native.Mathlib.Omega.{arith}
-use borrow.Author.Rules.{rules}
-use lib.ListN.{set, replicate, length-set}
-use lib.Seq.{sets}
+-- `list::clear_places` meets its contract: the part that is filled is written into the array. Assumes nothing.
+use Rattle.std.proofs.Common.{◌≡◌, ℕ, ◌+◌, ◌-◌, ◌≤◌, List, ◌++◌, length, take, drop, replicate, refl, sym, ap, ◌∙◌, arith}
+use Rattle.std.proofs.lemmas.List.{length-replicate, length-take-le, length-drop}
+use Rattle.std.proofs.lemmas.List.Edits.{sets, sets-eq, paste_all}
+use Rattle.std.proofs.lemmas.Slice.{put_mid-paste}
+use mathlib.Core.List.{append_assoc}
+use borrow.Rule.Slice.PartMut.{put_mid}
 use Rattle.list.proofs.clear_places.Goals as goal
 
-module _ (d : List ℕ) (i to : ℕ) where
-  turn : i < to → sets d i (replicate (to - i) 0) ≡ sets (set d i 0) (i + 1) (replicate (to - (i + 1)) 0)
-  turn h =
-      let m : to - i ≡ suc (to - (i + 1)) = omega arith in
-      let a : i + 1 ≡ suc i = omega arith in
-      rw (m, a)
+filled : (xs : List ℕ) (a k : ℕ) (ys zeros : List ℕ) → zeros ≡ replicate k 0 → ys ≡ replicate (length (take k (drop a xs))) 0 → a + k ≤ length xs
+    → put_mid a k xs ys ≡ sets xs a zeros
+filled xs a k ys zeros z e h =
+    let many : length (take k (drop a xs)) ≡ k = length-take-le k (drop a xs) (omega (arith, length-drop a xs)) in
+    let long : k ≡ length zeros = sym (ap (λ (ws : List ℕ). length ws) z ∙ length-replicate k 0) in
+    put_mid-paste a k xs ys zeros k (e ∙ ap (λ (n : ℕ). replicate n 0) many ∙ sym z) refl long
+    ∙ paste_all xs a zeros k long
+    ∙ ap (λ (n : ℕ). take a xs ++ (zeros ++ drop (a + n) xs)) long
+    ∙ sym (append_assoc (take a xs) zeros (drop (a + length zeros) xs))
+    ∙ sym (sets-eq zeros xs a (omega (arith, long)))
 
-  ends : to ≤ i → d ≡ sets d i (replicate (to - i) 0)
-  ends h = let m : to - i ≡ 0 = omega arith in rw m
-
-pub loop-place-init : goal.loop-place-init
-loop-place-init c = (refl, refl)
-
-pub loop-place-preserved : goal.loop-place-preserved
-loop-place-preserved c =
-    (simp length-set (search rules), c.loop-place.invariant.1 ∙ turn c.loop-place.counts c.loop-place.place c.args.to (search rules))
-
-pub shape_of-counts : goal.shape_of-counts
-shape_of-counts c = c.loop-place.invariant.0
-
-pub returns : goal.returns
-returns c =
-    ends c.loop-place.counts c.loop-place.place c.args.to (search rules) ∙ sym c.loop-place.invariant.1
+pub returns-then-from-to : goal.returns-then-from-to
+returns-then-from-to c =
+    filled c.args.counts.now c.args.from (c.args.to - c.args.from) c.fill.new.self _ refl (c.fill.ensures.after (λ y e. e)) (omega arith)

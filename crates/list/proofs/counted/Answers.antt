@@ -17,52 +17,49 @@ abbrev any : Sizes
 any = record { capacity = 0; used = 0 }
 
 pub loop-place-init : goal.loop-place-init
-loop-place-init c = (search rules, λ s. stored_none _ _ _)
+loop-place-init c = λ s. stored_none _ _ _
 
 pub loop-place-preserved-then-multiplicity-eq0 : goal.loop-place-preserved-then-multiplicity-eq0
 unfolding multiplicity_at
-loop-place-preserved-then-multiplicity-eq0 c = (search rules, λ s. stored_passed (c.loop-place.invariant.1 s) c.if-multiplicity-eq0.true)
+loop-place-preserved-then-multiplicity-eq0 c = λ s. stored_passed (c.loop-place.invariant s) c.if-multiplicity-eq0.true
 
 pub put_key-requires : goal.put_key-requires
 put_key-requires c =
-    let stored = c.loop-place.invariant.1 any in
+    let stored = c.loop-place.invariant any in
     omega (arith, stored_few stored, stored_long_keys stored)
 
 pub offset_bounds-to_multiplicities-n : goal.offset_bounds-to_multiplicities-n
 offset_bounds-to_multiplicities-n c =
-    let stored = c.loop-place.invariant.1 any in
+    let stored = c.loop-place.invariant any in
     let few = stored_few stored in
     let long = stored_long_counts stored in
     search rules
 
 pub bounds-to_multiplicities-n : goal.bounds-to_multiplicities-n
 bounds-to_multiplicities-n c =
-    let stored = c.loop-place.invariant.1 any in
+    let stored = c.loop-place.invariant any in
     let few = stored_few stored in
     let long = stored_long_counts stored in
     search rules
 
 pub overflow_add-n : goal.overflow_add-n
-overflow_add-n c = let few = stored_few (c.loop-place.invariant.1 any) in search rules
+overflow_add-n c = let few = stored_few (c.loop-place.invariant any) in search rules
 
 pub loop-place-preserved : goal.loop-place-preserved
 unfolding multiplicity_at
-loop-place-preserved c = (
-  search rules,
-  λ s.
-      stored_more (c.loop-place.invariant.1 s) c.if-multiplicity-eq0.false
-      (c.put_key.ensures ∙ ap (λ (k : U32TableEntry). sets c.loop-place.to_keys (entry_width * c.loop-place.n) (entry_words k)) (c.key_at.ensures s _)) refl,
-)
+loop-place-preserved c = λ s.
+    stored_more (c.loop-place.invariant s) c.if-multiplicity-eq0.false
+    (c.put_key.ensures ∙ ap (λ (k : U32TableEntry). sets c.loop-place.to_keys (entry_width * c.loop-place.n) (entry_words k)) (c.key_at.ensures s _)) refl
 
 pub shape_of-to_keys : goal.shape_of-to_keys
-shape_of-to_keys c = stored_long_keys (c.loop-place.invariant.1 any)
+shape_of-to_keys c = stored_long_keys (c.loop-place.invariant any)
 
 pub shape_of-to_multiplicities : goal.shape_of-to_multiplicities
-shape_of-to_multiplicities c = stored_long_counts (c.loop-place.invariant.1 any)
+shape_of-to_multiplicities c = stored_long_counts (c.loop-place.invariant any)
 
 pub returns : goal.returns
 returns c =
-    let stored = c.loop-place.invariant.1 c.args.sizes in
+    let stored = c.loop-place.invariant c.args.sizes in
     record {
       value = stored_sizes stored (search rules);
       to_keys_after = stored_keys stored (search rules);

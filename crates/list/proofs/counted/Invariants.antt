@@ -1,5 +1,4 @@
--- What the loop of `counted` keeps, and what falls with each turn.
-use Prim.Native.Nat.{◌-◌, ◌≤◌}
+-- What the loop of `counted` keeps.
 use Rattle.list.specs.declared.Sizes.{Sizes}
 use Rattle.list.specs.Lists.{u32_list}
 use Rattle.list.proofs.CountedStores.{Stored}
@@ -7,7 +6,4 @@ use Rattle.list.proofs.counted.Given as goal
 
 abbrev pub invariant-loop-place : goal.invariant-loop-place
 invariant-loop-place l =
-    (l.place ≤ l.used) × ((s : Sizes) → Stored (u32_list s l.keys l.multiplicities) l.initial.to_keys l.initial.to_multiplicities l.to_keys l.to_multiplicities l.n l.place)
-
-abbrev pub decreases-loop-place : goal.decreases-loop-place
-decreases-loop-place l = l.used - l.place
+    (s : Sizes) → Stored (u32_list s l.keys l.multiplicities) l.initial.to_keys l.initial.to_multiplicities l.to_keys l.to_multiplicities l.n l.place

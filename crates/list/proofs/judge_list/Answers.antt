@@ -1,18 +1,17 @@
 -- `list::judge_list` meets its contract: reason 1, or what `judge_places` answers, for which the shape leaves room. Assumes nothing.
 use mathlib.Core.Path.{sym, ◌∙◌}
 use native.Mathlib.Omega.{arith}
+use Rattle.words.proofs.Judgements.{handed_on}
 use Rattle.list.proofs.JudgedLists.{shaped, judged_shape, judged_places_lem}
 use Rattle.list.proofs.judge_list.Goals as goal
 
-pub returns-in-Declined : goal.returns-in-Declined
-returns-in-Declined c = sym (judged_shape _ (sym c.list_shape.ensures ∙ c.in-Declined.is))
+pub returns-in_err-list_shape : goal.returns-in_err-list_shape
+returns-in_err-list_shape c = handed_on _ c.from_residual.ensures.1 ∙ sym (judged_shape _ (sym c.in_err-list_shape.ensures))
 
 pub judge_places-requires : goal.judge_places-requires
 judge_places-requires c =
-    let fits = shaped _ (sym c.list_shape.ensures ∙ c.in_default.is) in
+    let fits = shaped _ (sym c.in_ok-list_shape.ensures) in
     (omega arith, omega arith, omega arith)
 
 pub returns : goal.returns
-returns c =
-    c.judge_places.ensures _
-    ∙ sym (judged_places_lem _ (sym c.list_shape.ensures ∙ c.in_default.is))
+returns c = c.judge_places.ensures _ ∙ sym (judged_places_lem _ (sym c.in_ok-list_shape.ensures))

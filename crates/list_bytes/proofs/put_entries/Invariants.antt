@@ -1,8 +1,7 @@
--- What the loop of `put_entries` keeps, and what falls with each turn.
-use Prim.Native.Nat.{ℕ, ◌≤◌, ◌-◌, ◌+◌, ◌*◌}
+-- What the loop of `put_entries` keeps.
+use Prim.Native.Nat.{ℕ, ◌-◌, ◌+◌, ◌*◌}
 use mathlib.Core.Path.{◌≡◌}
 use mathlib.Core.List.{List, flat_map}
-use lib.ListN.{length}
 use lib.Seq.{sets}
 use Rattle.words.specs.Places.{places_from, places}
 use Rattle.list.specs.declared.Sizes.{Sizes}
@@ -16,9 +15,5 @@ block keys s ms i = key_bytes (entry_at (u32_list s keys ms) i)
 
 abbrev pub invariant-loop-i : goal.invariant-loop-i
 invariant-loop-i l =
-    (l.i ≤ l.n) × (length l.out ≡ length l.initial.out)
-    × ((s : Sizes) (ms : List ℕ) → sets l.initial.out l.at (flat_map (block l.keys s ms) (places l.n))
-    ≡ sets l.out (l.at + key_width * l.i) (flat_map (block l.keys s ms) (places_from l.i (l.n - l.i))))
-
-abbrev pub decreases-loop-i : goal.decreases-loop-i
-decreases-loop-i l = l.n - l.i
+    (s : Sizes) (ms : List ℕ) → sets l.initial.out l.at (flat_map (block l.keys s ms) (places l.n))
+    ≡ sets l.out (l.at + key_width * l.i) (flat_map (block l.keys s ms) (places_from l.i (l.n - l.i)))

@@ -1,9 +1,8 @@
 -- `list_bytes::put_multiplicities` meets its contract. The loop's invariant: what is to be stored in all is what is left to be stored, from place i
 -- on, in the bytes as they are. It is said of every list with these multiplicities. Assumes nothing.
 use Prim.Native.Nat.{◌+◌, ◌*◌}
-use mathlib.Core.Path.{refl, sym, ap, ◌∙◌}
+use mathlib.Core.Path.{sym, ap, ◌∙◌}
 use native.Mathlib.Nat.{sub-zero, add-zero}
-use borrow.Author.Rules.{rules}
 use lib.Seq.{sets}
 use Rattle.words.proofs.LittleEndian.{length_le}
 use Rattle.words.proofs.Places.{flat_turn, flat_done}
@@ -13,28 +12,16 @@ use Rattle.list_bytes.proofs.put_multiplicities.Invariants.{block}
 use Rattle.list_bytes.proofs.put_multiplicities.Goals as goal
 
 pub loop-i-init : goal.loop-i-init
-loop-i-init c = (search rules, refl, λ s ks. rw (sub-zero, add-zero))
+loop-i-init c = λ s ks. rw (sub-zero, add-zero)
 
 pub loop-i-preserved : goal.loop-i-preserved
 unfolding multiplicity_at
-loop-i-preserved c =
-    let i = c.loop-i.i in
-    let out = c.loop-i.out in
-    let ms = c.args.multiplicities.now in (
-      search rules,
-      c.put_le.auto.bytes ∙ c.loop-i.invariant.1,
-      λ s ks.
-          c.loop-i.invariant.2 s ks
-          ∙ flat_turn (block ms s ks) multiplicity_width c.args.at i c.args.n out c.put_le.new.bytes c.loop-i-test.true
-          (length_le multiplicity_width (multiplicity_at (u32_list s ks ms) i)) c.put_le.ensures,
-    )
-
-pub shape_of-out : goal.shape_of-out
-shape_of-out c = c.loop-i.invariant.1
+loop-i-preserved c = λ s ks.
+    c.loop-i.invariant s ks
+    ∙ flat_turn (block _ s ks) multiplicity_width _ _ _ _ _ c.loop-i-test.true
+    (length_le multiplicity_width (multiplicity_at (u32_list s ks c.args.multiplicities.now) c.loop-i.i)) c.put_le.ensures
 
 pub returns : goal.returns
-returns c =
-    λ s ks.
-    let i = c.loop-i.i in
-    sym (c.loop-i.invariant.2 s ks
-    ∙ ap (sets c.loop-i.out (c.args.at + multiplicity_width * i)) (flat_done (block c.args.multiplicities.now s ks) i c.args.n c.loop-i-test.false))
+returns c = λ s ks.
+    sym (c.loop-i.invariant s ks
+    ∙ ap (sets c.loop-i.out (c.args.at + multiplicity_width * c.loop-i.i)) (flat_done (block _ s ks) _ _ c.loop-i-test.false))

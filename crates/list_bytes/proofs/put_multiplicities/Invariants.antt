@@ -1,8 +1,7 @@
--- What the loop of `put_multiplicities` keeps, and what falls with each turn.
-use Prim.Native.Nat.{ℕ, ◌≤◌, ◌-◌, ◌+◌, ◌*◌}
+-- What the loop of `put_multiplicities` keeps.
+use Prim.Native.Nat.{ℕ, ◌-◌, ◌+◌, ◌*◌}
 use mathlib.Core.Path.{◌≡◌}
 use mathlib.Core.List.{List, flat_map}
-use lib.ListN.{length}
 use lib.Seq.{sets}
 use Rattle.words.specs.LittleEndian.{le}
 use Rattle.words.specs.Places.{places_from, places}
@@ -17,9 +16,5 @@ block multiplicities s ks i = le multiplicity_width (multiplicity_at (u32_list s
 
 abbrev pub invariant-loop-i : goal.invariant-loop-i
 invariant-loop-i l =
-    (l.i ≤ l.n) × (length l.out ≡ length l.initial.out)
-    × ((s : Sizes) (ks : List ℕ) → sets l.initial.out l.at (flat_map (block l.multiplicities s ks) (places l.n))
-    ≡ sets l.out (l.at + multiplicity_width * l.i) (flat_map (block l.multiplicities s ks) (places_from l.i (l.n - l.i))))
-
-abbrev pub decreases-loop-i : goal.decreases-loop-i
-decreases-loop-i l = l.n - l.i
+    (s : Sizes) (ks : List ℕ) → sets l.initial.out l.at (flat_map (block l.multiplicities s ks) (places l.n))
+    ≡ sets l.out (l.at + multiplicity_width * l.i) (flat_map (block l.multiplicities s ks) (places_from l.i (l.n - l.i)))

@@ -1,8 +1,7 @@
--- What the loop of `unpack` keeps, and what falls with each turn.
-use Prim.Native.Nat.{◌≤◌, ◌-◌, ◌+◌, ◌*◌}
+-- What the loop of `unpack` keeps.
+use Prim.Native.Nat.{◌-◌, ◌+◌, ◌*◌}
 use mathlib.Core.Path.{◌≡◌}
 use mathlib.Core.List.{map, flat_map}
-use lib.ListN.{length}
 use lib.Seq.{sets}
 use Rattle.words.specs.Places.{places_from, places}
 use Rattle.isa.specs.Entries.{entry_words, entry_width}
@@ -11,11 +10,7 @@ use Rattle.list_bytes.proofs.unpack.Given as goal
 
 abbrev pub invariant-loop-i : goal.invariant-loop-i
 invariant-loop-i l =
-    (l.i ≤ l.n) × (length l.keys ≡ length l.initial.keys) × (length l.multiplicities ≡ length l.initial.multiplicities)
-    × (sets l.initial.keys 0 (flat_map (λ i. entry_words (stored_entry l.bytes i)) (places l.n))
+    (sets l.initial.keys 0 (flat_map (λ i. entry_words (stored_entry l.bytes i)) (places l.n))
     ≡ sets l.keys (0 + entry_width * l.i) (flat_map (λ i. entry_words (stored_entry l.bytes i)) (places_from l.i (l.n - l.i))))
     × (sets l.initial.multiplicities 0 (map (stored_multiplicity l.bytes) (places l.n))
     ≡ sets l.multiplicities l.i (map (stored_multiplicity l.bytes) (places_from l.i (l.n - l.i))))
-
-abbrev pub decreases-loop-i : goal.decreases-loop-i
-decreases-loop-i l = l.n - l.i

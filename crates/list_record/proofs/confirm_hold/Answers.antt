@@ -7,10 +7,11 @@ use native.Mathlib.Nat.{add-zero}
 use borrow.Author.Rules.{rules}
 use Rattle.words.specs.Answers.{done, declined}
 use Rattle.words.specs.Limits.{multiplicity_limit}
-use Rattle.words.specs.Outcomes.{Leaves}
-use Rattle.words.specs.declared.Judgement.TheVariants.{Fine, Declined}
+use Rattle.words.specs.Outcomes.{Leaves, completed_answer}
+use Rattle.words.specs.Refusals.{Fine, Declined}
 use Rattle.words.specs.declared.Refusal.{Refusal}
-use Rattle.words.proofs.Outcomes.{leaves_done, leaves_declined}
+use Rattle.words.proofs.Judgements.{handed_on}
+use Rattle.words.proofs.Outcomes.{leaves_done, leaves_declined, leaves_said}
 use Rattle.list.specs.Lists.{multiplicity_at, count_full}
 use Rattle.list.specs.Holds.{HeldList, hold_at}
 use Rattle.list.proofs.JudgedLists.{count_within}
@@ -35,34 +36,35 @@ one_more m e = ap (λ (n : ℕ). count_full (n + 1)) (sym (add-zero m)) ∙ e
 rises : (m : ℕ) → count_full (m + 0 + 1) ≡ false → m + 1 ≤ multiplicity_limit
 rises m e = count_within _ (one_more m e)
 
-pub returns-in-Declined : goal.returns-in-Declined
-returns-in-Declined c = refused _ _ (confirm_without _ _ (sym c.judge_drop.ensures ∙ c.in-Declined.is))
+pub returns-in_err-judge_drop : goal.returns-in_err-judge_drop
+returns-in_err-judge_drop c =
+    leaves_said (ap completed_answer (handed_on _ c.from_residual.ensures.1)) (refused _ _ (confirm_without _ _ (sym c.in_err-judge_drop.ensures)))
 
 pub offset_bounds-multiplicities-position : goal.offset_bounds-multiplicities-position
 offset_bounds-multiplicities-position c =
-    let room = drop_room _ _ (sym c.judge_drop.ensures ∙ c.in_default.is) in
+    let room = drop_room _ _ (sym c.in_ok-judge_drop.ensures) in
     search rules
 
 pub bounds-multiplicities-position : goal.bounds-multiplicities-position
 bounds-multiplicities-position c =
-    let room = drop_room _ _ (sym c.judge_drop.ensures ∙ c.in_default.is) in
+    let room = drop_room _ _ (sym c.in_ok-judge_drop.ensures) in
     search rules
 
 pub returns-then-one_more_is_full : goal.returns-then-one_more_is_full
 unfolding multiplicity_at
 returns-then-one_more_is_full c =
     refused _ _
-    (confirm_full _ _ (sym c.judge_drop.ensures ∙ c.in_default.is)
+    (confirm_full _ _ (sym c.in_ok-judge_drop.ensures)
     (one_more _ (sym c.one_more_is_full.ensures ∙ c.if-one_more_is_full.true)))
 
 pub offset_bounds-multiplicities-position-2 : goal.offset_bounds-multiplicities-position-2
 offset_bounds-multiplicities-position-2 c =
-    let room = drop_room _ _ (sym c.judge_drop.ensures ∙ c.in_default.is) in
+    let room = drop_room _ _ (sym c.in_ok-judge_drop.ensures) in
     search rules
 
 pub bounds-multiplicities-position-2 : goal.bounds-multiplicities-position-2
 bounds-multiplicities-position-2 c =
-    let room = drop_room _ _ (sym c.judge_drop.ensures ∙ c.in_default.is) in
+    let room = drop_room _ _ (sym c.in_ok-judge_drop.ensures) in
     search rules
 
 pub overflow_add-multiplicities : goal.overflow_add-multiplicities
@@ -73,34 +75,34 @@ overflow_add-multiplicities c =
 
 pub bounds-multiplicities-position-3 : goal.bounds-multiplicities-position-3
 bounds-multiplicities-position-3 c =
-    let room = drop_room _ _ (sym c.judge_drop.ensures ∙ c.in_default.is) in
+    let room = drop_room _ _ (sym c.in_ok-judge_drop.ensures) in
     search rules
 
 pub offset_bounds-holds-position : goal.offset_bounds-holds-position
 offset_bounds-holds-position c =
-    let room = drop_room _ _ (sym c.judge_drop.ensures ∙ c.in_default.is) in
+    let room = drop_room _ _ (sym c.in_ok-judge_drop.ensures) in
     search rules
 
 pub bounds-holds-position : goal.bounds-holds-position
 bounds-holds-position c =
-    let room = drop_room _ _ (sym c.judge_drop.ensures ∙ c.in_default.is) in
+    let room = drop_room _ _ (sym c.in_ok-judge_drop.ensures) in
     search rules
 
 pub bounds-holds-position-2 : goal.bounds-holds-position-2
 bounds-holds-position-2 c =
-    let room = drop_room _ _ (sym c.judge_drop.ensures ∙ c.in_default.is) in
+    let room = drop_room _ _ (sym c.in_ok-judge_drop.ensures) in
     search rules
 
 pub overflow_sub-holds : goal.overflow_sub-holds
 unfolding multiplicity_at hold_at
 overflow_sub-holds c =
-    let room = drop_room _ _ (sym c.judge_drop.ensures ∙ c.in_default.is) in
+    let room = drop_room _ _ (sym c.in_ok-judge_drop.ensures) in
     search rules
 
 pub returns : goal.returns
 unfolding multiplicity_at hold_at
 returns c =
     confirmed _ _
-    (confirm_fine _ _ (sym c.judge_drop.ensures ∙ c.in_default.is)
+    (confirm_fine _ _ (sym c.in_ok-judge_drop.ensures)
     (one_more _ (sym c.one_more_is_full.ensures ∙ c.if-one_more_is_full.false)))
     refl

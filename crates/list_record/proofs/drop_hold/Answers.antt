@@ -1,15 +1,16 @@
 -- `list_record::drop_hold` meets its contract: each way out is one of the cases of a hold's end (proofs/HoldingCases.antt). Assumes nothing.
 use Prim.Native.Nat.{ℕ, ◌-◌}
-use mathlib.Core.Path.{◌≡◌, refl, sym, ◌∙◌}
+use mathlib.Core.Path.{◌≡◌, refl, sym, ap, ◌∙◌}
 use mathlib.Core.List.{[]}
 use borrow.Author.Rules.{rules}
 use lib.ListN.{set}
 use lib.Seq.{set-get_or}
 use Rattle.words.specs.Answers.{done, declined}
-use Rattle.words.specs.Outcomes.{Leaves}
-use Rattle.words.specs.declared.Judgement.TheVariants.{Fine, Declined}
+use Rattle.words.specs.Outcomes.{Leaves, completed_answer}
+use Rattle.words.specs.Refusals.{Fine, Declined}
 use Rattle.words.specs.declared.Refusal.{Refusal}
-use Rattle.words.proofs.Outcomes.{leaves_done, leaves_declined}
+use Rattle.words.proofs.Judgements.{handed_on}
+use Rattle.words.proofs.Outcomes.{leaves_done, leaves_declined, leaves_said}
 use Rattle.list.specs.Lists.{multiplicity_at}
 use Rattle.list.specs.Holds.{HeldList, held_list, hold_at}
 use Rattle.list_record.specs.Recording.{settled}
@@ -33,31 +34,31 @@ dropped : (h : HeldList) (i : ℕ) {left : HeldList} → drop_reason h i ≡ Fin
 unfolding drop_all
 dropped h i e q = leaves_done [] h _ e refl (q ∙ kept h i (hold_at h i - 1))
 
-pub returns-in-Declined : goal.returns-in-Declined
-returns-in-Declined c = refused _ _ (sym c.judge_drop.ensures ∙ c.in-Declined.is)
+pub returns-in_err-judge_drop : goal.returns-in_err-judge_drop
+returns-in_err-judge_drop c = leaves_said (ap completed_answer (handed_on _ c.from_residual.ensures.1)) (refused _ _ (sym c.in_err-judge_drop.ensures))
 
 pub offset_bounds-holds-position : goal.offset_bounds-holds-position
 offset_bounds-holds-position c =
-    let room = drop_room _ _ (sym c.judge_drop.ensures ∙ c.in_default.is) in
+    let room = drop_room _ _ (sym c.in_ok-judge_drop.ensures) in
     search rules
 
 pub bounds-holds-position : goal.bounds-holds-position
 bounds-holds-position c =
-    let room = drop_room _ _ (sym c.judge_drop.ensures ∙ c.in_default.is) in
+    let room = drop_room _ _ (sym c.in_ok-judge_drop.ensures) in
     search rules
 
 pub bounds-holds-position-2 : goal.bounds-holds-position-2
 bounds-holds-position-2 c =
-    let room = drop_room _ _ (sym c.judge_drop.ensures ∙ c.in_default.is) in
+    let room = drop_room _ _ (sym c.in_ok-judge_drop.ensures) in
     search rules
 
 pub overflow_sub-holds : goal.overflow_sub-holds
 unfolding multiplicity_at hold_at
 overflow_sub-holds c =
-    let room = drop_room _ _ (sym c.judge_drop.ensures ∙ c.in_default.is) in
+    let room = drop_room _ _ (sym c.in_ok-judge_drop.ensures) in
     search rules
 
 pub returns : goal.returns
 unfolding hold_at
 returns c =
-    dropped _ _ (sym c.judge_drop.ensures ∙ c.in_default.is) refl
+    dropped _ _ (sym c.in_ok-judge_drop.ensures) refl

@@ -1,47 +1,57 @@
 -- `list_replay::record_both` meets its contract: both places are found ahead (both_places), so that nothing is stored before both are accepted.
 -- Assumes nothing.
-use mathlib.Core.Path.{◌≡◌, sym, ◌∙◌}
+use mathlib.Core.Path.{◌≡◌, ap, ◌∙◌}
+use borrow.Author.Rules.{rules}
+use Rattle.std.specs.Prelude.{Ok}
+use Rattle.words.specs.Outcomes.{completed_answer}
+use Rattle.words.proofs.Judgements.{handed_on}
+use Rattle.words.proofs.Outcomes.{leaves_said}
 use Rattle.isa.specs.declared.U32TableEntry.{U32TableEntry}
 use Rattle.list.specs.Holds.{HeldList}
-use Rattle.list_record.specs.declared.Place.{Place}
-use Rattle.list_record.specs.Placing.{place_of, Fits}
+use Rattle.list.specs.Lent.{held_in_mut}
+use Rattle.list_record.specs.Placing.{Placed, place_of, Fits}
 use Rattle.list_record.proofs.RecordingCases.{place_fits}
-use Rattle.list_replay.proofs.BothPlaces.{first_refused, second_refused, second_fits, both_stored}
-use borrow.Author.Rules.{rules}
+use Rattle.list_replay.specs.Together.{second_place}
+use Rattle.list_replay.proofs.BothPlaces.{first_refused, ahead_refused, second_refused, second_fits, both_stored}
 use Rattle.list_replay.proofs.record_both.Goals as goal
 
-has_room : (h : HeldList) (e : U32TableEntry) {p : Place} → p ≡ place_of h e → Fits h p
+-- what is found in a list that is looked at is found in the list that was lent
+found_in : {view h : HeldList} (e : U32TableEntry) {p : Placed} → view ≡ h → p ≡ place_of view e → p ≡ place_of h e
+found_in e q f = f ∙ ap (λ (l : HeldList). place_of l e) q
+
+has_room : (h : HeldList) (e : U32TableEntry) {p : Placed} → p ≡ place_of h e → Fits h p
 has_room h e q = rw q (place_fits h e)
 
-pub returns-in-Declined : goal.returns-in-Declined
-returns-in-Declined c =
-    first_refused _ _ _ _ c.find_place-first.ensures
-    (sym c.reason_at.ensures ∙ c.in-Declined.is)
+pub returns-in_err-first-clause-outcome : goal.returns-in_err-first-clause-outcome
+returns-in_err-first-clause-outcome c =
+    leaves_said (ap completed_answer (handed_on _ c.from_residual.ensures.1))
+    (first_refused _ _ _ (found_in _ c.view.ensures c.in_err-first.ensures))
 
-pub returns-in-Declined-reason_at : goal.returns-in-Declined-reason_at
-returns-in-Declined-reason_at c =
-    let fine = sym c.reason_at.ensures ∙ c.in_default.is in
-    second_refused _ _ _ _ c.find_place-first.ensures c.requires _ _ c.find_place-ahead.ensures c.second_place-second.ensures fine
-    (sym c.reason_at-2.ensures ∙ c.in-Declined-reason_at.is)
+pub returns-in_err-ahead-clause-outcome : goal.returns-in_err-ahead-clause-outcome
+returns-in_err-ahead-clause-outcome c =
+    leaves_said (ap completed_answer (handed_on _ c.from_residual-in_err-ahead.ensures.1))
+    (ahead_refused _ _ _ c.requires _ (found_in _ c.view.ensures c.in_ok-first.ensures) (found_in _ c.view-2.ensures c.in_err-ahead.ensures))
 
-pub store-half-requires : goal.store-half-requires
-store-half-requires c = (
+pub returns-in_err-second-clause-outcome : goal.returns-in_err-second-clause-outcome
+returns-in_err-second-clause-outcome c =
+    leaves_said (ap completed_answer (handed_on _ c.from_residual-in_err-second.ensures.1))
+    (second_refused _ _ _ c.requires _ (found_in _ c.view.ensures c.in_ok-first.ensures)
+    (c.in_err-second.ensures ∙ ap (second_place _ (Ok c.in_ok-first.first)) (found_in _ c.view-2.ensures c.in_ok-ahead.ensures)))
+
+pub store-requires : goal.store-requires
+store-requires c = (search rules, search rules, has_room _ _ (found_in _ c.view.ensures c.in_ok-first.ensures))
+
+pub store-requires-2 : goal.store-requires-2
+store-requires-2 c = (
   search rules,
   search rules,
-  has_room _ _ c.find_place-first.ensures,
+  second_fits (held_in_mut c.args.list.now) _ _ c.requires _ (found_in _ c.view.ensures c.in_ok-first.ensures) _
+      (c.in_ok-second.ensures ∙ ap (second_place _ (Ok c.in_ok-first.first)) (found_in _ c.view-2.ensures c.in_ok-ahead.ensures)) _
+      c.store.ensures.outcome.left,
 )
 
-pub store-whole-requires : goal.store-whole-requires
-store-whole-requires c =
-    let fine = sym c.reason_at.ensures ∙ c.in_default.is in (
-      search rules,
-      search rules,
-      second_fits _ _ _ _ c.find_place-first.ensures c.requires _ _ c.find_place-ahead.ensures c.second_place-second.ensures fine _
-          c.store-half.ensures.left,
-    )
-
-pub returns : goal.returns
-returns c =
-    let fine = sym c.reason_at.ensures ∙ c.in_default.is in
-    both_stored _ _ _ _ c.find_place-first.ensures c.requires _ _ c.find_place-ahead.ensures c.second_place-second.ensures fine _
-    c.store-half.ensures.left (sym c.reason_at-2.ensures ∙ c.in_default-reason_at.is) c.store-whole.ensures
+pub returns-clause-outcome : goal.returns-clause-outcome
+returns-clause-outcome c =
+    both_stored _ _ _ c.requires _ (found_in _ c.view.ensures c.in_ok-first.ensures) _
+    (c.in_ok-second.ensures ∙ ap (second_place _ (Ok c.in_ok-first.first)) (found_in _ c.view-2.ensures c.in_ok-ahead.ensures)) _
+    c.store.ensures.outcome.left c.store-2.ensures.outcome

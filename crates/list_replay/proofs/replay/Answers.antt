@@ -1,49 +1,52 @@
 -- `list_replay::replay` meets its contract. The loop's invariant: the walk from the step that is reached on, over the list as it is, is the walk
 -- from step 0 over the list as it was lent. Assumes nothing.
-use mathlib.Core.Path.{refl, sym, ◌∙◌}
+use mathlib.Core.Path.{◌≡◌, refl, sym, ap, ◌∙◌}
 use native.Mathlib.Omega.{arith}
-use borrow.Author.Rules.{rules}
-use native.Mathlib.Nat.{sub-zero}
-use Rattle.list_replay.specs.Steps.{step_at}
+use Rattle.words.specs.Answers.{Answer}
+use Rattle.words.specs.Outcomes.{Leaves}
+use Rattle.words.specs.Refusals.{Judgement}
+use Rattle.list.specs.Holds.{HeldList, held_shape}
+use Rattle.list.specs.Lent.{held_in_mut, SameArrays}
+use Rattle.list.specs.declared.LentListMut.{LentListMut}
+use Rattle.list_replay.specs.declared.Step.{Step}
+use Rattle.list_replay.specs.Replay.{step_all}
 use Rattle.list_replay.proofs.Walks.{shape_stops, torn_stops, walks, walk_goes_on, walk_stopped, walk_ended}
 use Rattle.list_replay.proofs.replay.Goals as goal
 
-pub returns-in-Declined : goal.returns-in-Declined
-returns-in-Declined c =
-    rw (shape_stops _ _ (sym c.held_shape.ensures ∙ c.in-Declined.is)) (record { answer = refl; left = refl })
+-- what is told of a list that is looked at holds of the list that was lent
+lent : {view h : HeldList} {told : Judgement} → view ≡ h → told ≡ held_shape view → held_shape h ≡ told
+lent q t = ap held_shape (sym q) ∙ sym t
 
-pub returns-then-trace-ne0 : goal.returns-then-trace-ne0
-returns-then-trace-ne0 c =
-    let fine = sym c.held_shape.ensures ∙ c.in_default.is in
-    rw (torn_stops _ _ fine c.if-trace-ne0.true) (record { answer = refl; left = refl })
+-- the step that was taken is that of the trace
+taken : (h : HeldList) {s t : Step} (a : Answer) {left : HeldList} → s ≡ t → Leaves (step_all h s) a left → Leaves (step_all h t) a left
+taken h a q made = rw (← q) made
 
-pub loop-i-init : goal.loop-i-init
-loop-i-init c = (omega arith, (refl, (refl, (refl, rw sub-zero))))
+after : {a b c : LentListMut} → SameArrays a b → SameArrays b c → SameArrays a c
+after s t = record {
+  keys = t.keys ∙ s.keys;
+  multiplicities = t.multiplicities ∙ s.multiplicities;
+  holds = t.holds ∙ s.holds;
+}
 
-pub returns-in-Refused : goal.returns-in-Refused
-unfolding step_at
-returns-in-Refused c =
-    let fine = sym c.held_shape.ensures ∙ c.in_default.is in
-    walk_stopped _ _ _ _ _ c.loop-i-test.true (walks _ _ fine c.if-trace-ne0.false) c.loop-i.invariant.1.1.1.1 c.replay_step-r.ensures
-    c.in-Refused.is
+pub returns-in-Err-clause-outcome : goal.returns-in-Err-clause-outcome
+returns-in-Err-clause-outcome c =
+    rw (shape_stops _ _ (lent c.view.ensures c.in-Err.ensures)) (record { answer = refl; left = refl })
 
-pub loop-i-preserved : goal.loop-i-preserved
-unfolding step_at
-loop-i-preserved c = (
-  omega arith,
-  (
-    search rules,
-    (
-      search rules,
-      (
-        search rules,
-        walk_goes_on _ _ _ _ _ c.loop-i-test.true c.loop-i.invariant.1.1.1.1 c.replay_step-r.ensures c.in_default-answer.is,
-      ),
-    ),
-  ),
+pub returns-then-trace-ne0-clause-outcome : goal.returns-then-trace-ne0-clause-outcome
+returns-then-trace-ne0-clause-outcome c =
+    rw (torn_stops (held_in_mut c.args.list.now) c.args.trace.now (lent c.view.ensures c.in_default.ensures) c.if-trace-ne0.true) (record { answer = refl; left = refl })
+
+pub returns-in-Err-replay_step-clause-outcome : goal.returns-in-Err-replay_step-clause-outcome
+returns-in-Err-replay_step-clause-outcome c =
+    walk_stopped _ _ _ _ _ c.loop-done-test.true (walks _ _ (lent c.view.ensures c.in_default.ensures) c.if-trace-ne0.false) c.loop-done.invariant.1
+    (taken _ _ c.step_at.ensures c.in-Err-replay_step.ensures.outcome) refl
+
+pub loop-done-preserved : goal.loop-done-preserved
+loop-done-preserved c = (
+  after c.loop-done.invariant.0 c.replay_step.ensures.same_arrays,
+  walk_goes_on _ _ _ _ _ c.loop-done-test.true c.loop-done.invariant.1 (taken _ _ c.step_at.ensures c.in_default-replay_step.ensures.outcome) refl,
 )
 
-pub returns : goal.returns
-returns c =
-    let fine = sym c.held_shape.ensures ∙ c.in_default.is in
-    walk_ended _ _ _ _ _ (omega arith, omega arith) (walks _ _ fine c.if-trace-ne0.false) c.loop-i.invariant.1.1.1.1
+pub returns-clause-outcome : goal.returns-clause-outcome
+returns-clause-outcome c =
+    walk_ended _ _ _ _ _ (omega arith, omega arith) (walks _ _ (lent c.view.ensures c.in_default.ensures) c.if-trace-ne0.false) c.loop-done.invariant.1

@@ -12,11 +12,11 @@ pub returns-then-out-length : goal.returns-then-out-length
 returns-then-out-length c =
     stored_refused _ _ _
     (store_short _ _ (sym (c.has_repeats.ensures _ _) ∙ c.if-has_repeats.false)
-    (let e = c.stored_length-length.ensures in let h = c.if-out-length.true in omega arith))
+    (let e = c.length_with-length.ensures in let h = c.if-out-length.true in omega arith))
 
 pub returns : goal.returns
 returns c =
     stored_done _ _ _ _ _ _
-    (store_fine _ _ (sym (c.has_repeats.ensures _ _) ∙ c.if-has_repeats.false) (let e = c.stored_length-length.ensures in let h = c.if-out-length.false in omega arith))
-    c.stored_length-length.ensures
+    (store_fine _ _ (sym (c.has_repeats.ensures _ _) ∙ c.if-has_repeats.false) (let e = c.length_with-length.ensures in let h = c.if-out-length.false in omega arith))
+    c.length_with-length.ensures
     c.requires.height_value c.put_list.ensures

@@ -13,32 +13,32 @@ pub returns-then-n-gt-MAX_PLACES : goal.returns-then-n-gt-MAX_PLACES
 returns-then-n-gt-MAX_PLACES c =
     sym (torn_many c.args.bytes.now (let e = c.stored_n-n.ensures in let h = c.if-n-gt-MAX_PLACES.true in omega arith))
 
-pub returns-then-bytes-stored_length : goal.returns-then-bytes-stored_length
-returns-then-bytes-stored_length c =
+pub returns-then-bytes-length_with : goal.returns-then-bytes-length_with
+returns-then-bytes-length_with c =
+    let n = c.stored_n-n.ensures in
+    let few = c.if-n-gt-MAX_PLACES.false in
+    sym
+    (whole_fine c.args.bytes.now
+    (record {
+      few = omega arith;
+      long = old_long c.args.bytes.now (c.if-bytes-length_with.true ∙ c.length_with.ensures ∙ ap old_length n);
+    }))
+
+pub returns-then-bytes-length_with-2 : goal.returns-then-bytes-length_with-2
+returns-then-bytes-length_with-2 c =
+    let n = c.stored_n-n.ensures in
+    let few = c.if-n-gt-MAX_PLACES.false in
+    sym
+    (whole_fine c.args.bytes.now
+    (record {
+      few = omega arith;
+      long = new_long c.args.bytes.now (c.if-bytes-length_with-2.true ∙ c.length_with-2.ensures ∙ ap stored_length n);
+    }))
+
+pub returns : goal.returns
+returns c =
     let n = c.stored_n-n.ensures in
     sym
     (torn_length c.args.bytes.now
-    (λ e. c.if-bytes-old_length.true (e ∙ ap old_length (sym n) ∙ sym c.old_length.ensures))
-    (λ e. c.if-bytes-stored_length.true (e ∙ ap stored_length (sym n) ∙ sym c.stored_length.ensures)))
-
-pub returns-else-bytes-stored_length : goal.returns-else-bytes-stored_length
-returns-else-bytes-stored_length c =
-    let n = c.stored_n-n.ensures in
-    let few = c.if-n-gt-MAX_PLACES.false in
-    sym
-    (whole_fine c.args.bytes.now
-    (record {
-      few = omega arith;
-      long = new_long c.args.bytes.now (c.if-bytes-stored_length.false ∙ c.stored_length.ensures ∙ ap stored_length n);
-    }))
-
-pub returns-else-bytes-old_length : goal.returns-else-bytes-old_length
-returns-else-bytes-old_length c =
-    let n = c.stored_n-n.ensures in
-    let few = c.if-n-gt-MAX_PLACES.false in
-    sym
-    (whole_fine c.args.bytes.now
-    (record {
-      few = omega arith;
-      long = old_long c.args.bytes.now (c.if-bytes-old_length.false ∙ c.old_length.ensures ∙ ap old_length n);
-    }))
+    (λ e. c.if-bytes-length_with.false (e ∙ ap old_length (sym n) ∙ sym c.length_with.ensures))
+    (λ e. c.if-bytes-length_with-2.false (e ∙ ap stored_length (sym n) ∙ sym c.length_with-2.ensures)))

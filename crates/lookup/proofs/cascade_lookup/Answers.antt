@@ -1,8 +1,16 @@
--- `lookup::cascade_lookup` meets its contract: the table that is lent is the byte lookup's. Assumes nothing.
-use mathlib.Core.Path.{◌∙◌}
+-- `lookup::cascade_lookup` meets its contract: the outputs of both bytes make the cascade's. Assumes nothing.
+use mathlib.Core.Path.{ap, ◌∙◌}
+use mathlib.Core.List.{List}
+use Prim.Native.Nat.{ℕ}
 use borrow.Author.Rules.{rules}
+use lib.ListN.{get_or}
+use Rattle.lookup.specs.ByteLookup.{byte_output}
 use Rattle.lookup.proofs.ByteLookup.{both_looked_up}
 use Rattle.lookup.proofs.cascade_lookup.Goals as goal
 
 pub returns : goal.returns
-returns c = c.cascade_lookup_in.ensures ∙ both_looked_up _ c.byte_outputs-outputs.ensures.rule _ (search rules)
+returns c =
+    c.from_be_bytes.ensures
+    ∙ both_looked_up _ (search rules)
+    (c.byte_lookup.ensures.rule ∙ ap (λ (bytes : List ℕ). byte_output (get_or bytes 0 0)) c.to_be_bytes.ensures)
+    (c.byte_lookup-2.ensures.rule ∙ ap (λ (bytes : List ℕ). byte_output (get_or bytes 1 0)) c.to_be_bytes.ensures)

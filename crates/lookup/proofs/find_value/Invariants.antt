@@ -1,5 +1,5 @@
--- What the loops of `find_value` keep, and what falls with each turn.
-use Prim.Native.Nat.{ℕ, ◌*◌, ◌≤◌, ◌-◌}
+-- What the loops of `find_value` keep.
+use Prim.Native.Nat.{ℕ, ◌*◌, ◌-◌}
 use mathlib.Core.Path.{◌≡◌}
 use mathlib.Core.List.{List}
 use Rattle.lookup.specs.Cascades.{find_from}
@@ -10,13 +10,7 @@ abbrev pub Reached : (keys : List ℕ) (n value i : ℕ) → Type 0
 Reached keys n value i = find_from keys value 0 n ≡ find_from keys value i (n - i)
 
 abbrev pub invariant-loop-run : goal.invariant-loop-run
-invariant-loop-run l = (l.run ≤ l.runs) × Reached l.keys l.n l.value (256 * l.run)
+invariant-loop-run l = (l.passed ≡ 256 * l.run) × Reached l.keys l.n l.value l.passed
 
-abbrev pub decreases-loop-run : goal.decreases-loop-run
-decreases-loop-run l = l.runs - l.run
-
-abbrev pub invariant-loop-i : goal.invariant-loop-i
-invariant-loop-i l = (l.i ≤ l.n) × Reached l.keys l.n l.value l.i
-
-abbrev pub decreases-loop-i : goal.decreases-loop-i
-decreases-loop-i l = l.n - l.i
+abbrev pub invariant-loop-place : goal.invariant-loop-place
+invariant-loop-place l = Reached l.keys l.n l.value l.place

@@ -1,6 +1,6 @@
--- `lookup::would_pass_limit` meets its contract: nothing is added, so that no sum passes a word. Assumes nothing.
-use Prim.Native.Nat.{ℕ, ◌+◌, ◌-◌, ◌≤◌, ◌<◌}
-use mathlib.Core.Path.{◌≡◌, refl, sym}
+-- `lookup::would_pass_limit` meets its contract: the sum is past the limit where the greatest word stands for it. Assumes nothing.
+use Prim.Native.Nat.{ℕ, min}
+use mathlib.Core.Path.{◌≡◌, refl, sym, ap, ◌∙◌}
 use mathlib.Core.Bool.{Bool, true, false}
 use native.Mathlib.Omega.{arith}
 use lib.Dec.{ltb}
@@ -9,19 +9,12 @@ use Rattle.words.specs.Limits.{multiplicity_limit}
 use Rattle.list.specs.Lists.{count_full}
 use Rattle.lookup.proofs.would_pass_limit.Goals as goal
 
-above : (m more : ℕ) → multiplicity_limit < m → count_full (m + more) ≡ true
+cut_alike : (sum : ℕ) → count_full (min sum 18446744073709551615) ≡ count_full sum
 unfolding count_full
-above m more h = lt-ltb multiplicity_limit (m + more) (omega arith)
-
-within : (m more : ℕ) → m ≤ multiplicity_limit → ltb (multiplicity_limit - m) more ≡ count_full (m + more)
-unfolding count_full
-within m more h = go (ltb (multiplicity_limit - m) more) refl where
-  go : (t : Bool) → ltb (multiplicity_limit - m) more ≡ t → t ≡ ltb multiplicity_limit (m + more)
-  go true e = let l : multiplicity_limit - m < more = ltb-true _ _ e in sym (lt-ltb multiplicity_limit (m + more) (omega arith))
-  go false e = let l : more ≤ multiplicity_limit - m = ltb-false _ _ e in sym (le-ltb multiplicity_limit (m + more) (omega arith))
-
-pub returns-then-multiplicity-gt-MULTIPLICITY_LIMIT : goal.returns-then-multiplicity-gt-MULTIPLICITY_LIMIT
-returns-then-multiplicity-gt-MULTIPLICITY_LIMIT c = sym (above _ _ c.if-multiplicity-gt-MULTIPLICITY_LIMIT.true)
+cut_alike sum = go (ltb multiplicity_limit sum) refl where
+  go : (t : Bool) → ltb multiplicity_limit sum ≡ t → ltb multiplicity_limit (min sum 18446744073709551615) ≡ ltb multiplicity_limit sum
+  go true e = let past = ltb-true multiplicity_limit sum e in lt-ltb _ _ (omega arith) ∙ sym e
+  go false e = let within = ltb-false multiplicity_limit sum e in le-ltb _ _ (omega arith) ∙ sym e
 
 pub returns : goal.returns
-returns c = within _ _ c.if-multiplicity-gt-MULTIPLICITY_LIMIT.false
+returns c = c.count_full.ensures ∙ ap count_full c.saturating_add.ensures ∙ cut_alike _

@@ -1,32 +1,19 @@
 -- `numbers::next` meets its contract: a case for each kind of byte.
 use Rattle.numbers.proofs.Steps.{step_space, step_newline, step_below, step_above, step_digit}
+use borrow.Author.Rules.{rules}
 use Rattle.numbers.proofs.next.Goals as goal
 
-pub returns-then-byte-eq32 : goal.returns-then-byte-eq32
-returns-then-byte-eq32 c =
-    rw (c.if-byte-eq32.true, step_space c.args.place, ← c.line_of_next-line.ensures)
-    c.gap_step.ensures
+pub returns-in-32 : goal.returns-in-32
+returns-in-32 c = rw (c.in-32.is, c.gap_step.ensures, c.line_of_next-line.ensures, step_space c.args.place)
 
-pub returns-then-byte-eq10 : goal.returns-then-byte-eq10
-returns-then-byte-eq10 c =
-    rw (c.if-byte-eq10.true, step_newline c.args.place, ← c.line_of_next-line.ensures)
-    c.gap_step-then-byte-eq10.ensures
+pub returns-in-10 : goal.returns-in-10
+returns-in-10 c = rw (c.in-10.is, c.gap_step-in-10.ensures, c.line_of_next-line.ensures, step_newline c.args.place)
 
-pub returns-then-byte-lt48 : goal.returns-then-byte-lt48
-returns-then-byte-lt48 c =
-    rw (
-      step_below c.args.place c.args.byte c.if-byte-eq32.false c.if-byte-eq10.false c.if-byte-lt48.true,
-      ← c.line_of_next-line.ensures,
-    )
+pub returns-in-48-to-57 : goal.returns-in-48-to-57
+returns-in-48-to-57 c = rw (c.digit_step.ensures, c.unwrap_or.ensures, c.line_of_next-line.ensures, step_digit c.args.place c.args.byte (search rules) (search rules))
 
-pub returns-then-byte-gt57 : goal.returns-then-byte-gt57
-returns-then-byte-gt57 c =
-    rw (step_above c.args.place c.args.byte c.if-byte-gt57.true, ← c.line_of_next-line.ensures)
+pub returns-in_default : goal.returns-in_default
+returns-in_default c = rw (c.line_of_next-line.ensures, step_below c.args.place c.args.byte (search rules) (search rules) (search rules))
 
-pub returns : goal.returns
-returns c =
-    rw (
-      step_digit c.args.place c.args.byte c.if-byte-lt48.false c.if-byte-gt57.false,
-      ← c.line_of_next-line.ensures,
-    )
-    c.digit_step.ensures
+pub returns-in_default-2 : goal.returns-in_default-2
+returns-in_default-2 c = rw (c.line_of_next-line.ensures, step_above c.args.place c.args.byte (search rules))

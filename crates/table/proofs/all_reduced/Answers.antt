@@ -1,31 +1,20 @@
--- `table::all_reduced` meets its contract. The loops' invariant: each word passed is below p; the measures are the tens and the words that
--- are left. A word p or more decides the answer, and at the end all words have been passed. Assumes nothing.
-use mathlib.Core.Path.{sym}
-use native.Mathlib.Omega.{arith}
-use borrow.Author.Rules.{rules}
-use borrow.Author.Count.{below_more}
-use borrow.Author.Tests.{not-false}
-use Rattle.table.proofs.Rows.{all_reduced_lem}
-use Rattle.table.proofs.Shapes.{word_above}
-use Rattle.table.proofs.Tens.{ten_more}
+-- `table::all_reduced` meets its contract: the words' tests joined from the left are the definition's. Assumes nothing.
+use Rattle.std.proofs.Common.{◌≡◌, ℕ, Bool, true, false, ◌&&◌, List, [], ◌∷◌, refl, ◌∙◌, rules, ltb}
+use Rattle.std.specs.List.{fold}
+use Rattle.std.proofs.lemmas.Iterator.{YieldsList-from_slice}
+use Rattle.std.proofs.lemmas.Iterator.Consumers.{fold_from_yields_List}
+use Rattle.field.specs.Elements.{p}
+use Rattle.table.specs.Columns.{all_reduced}
 use Rattle.table.proofs.all_reduced.Goals as goal
 
-pub loop-ten-init : goal.loop-ten-init
-loop-ten-init c = (omega arith, λ k h. absurd (omega arith))
-
-pub loop-ten-preserved : goal.loop-ten-preserved
-loop-ten-preserved c =
-    let more = ten_more _ _ c.loop-ten.invariant.1 (c.are_ten_reduced.ensures (not-false c.are_ten_reduced.result (search rules))) in
-    (omega arith, λ k h. more k (omega arith))
-
-pub loop-i-init : goal.loop-i-init
-loop-i-init c = (omega arith, c.loop-ten.invariant.1)
-
-pub returns-then-words-i-ge-P : goal.returns-then-words-i-ge-P
-returns-then-words-i-ge-P c = word_above _ _ (omega arith) c.if-words-i-ge-P.true
-
-pub loop-i-preserved : goal.loop-i-preserved
-loop-i-preserved c = (omega arith, below_more _ _ c.loop-i.invariant.1 c.if-words-i-ge-P.false)
+from_the_left : (ws : List ℕ) (b : Bool) → fold (λ all w. all && ltb w p) b ws ≡ (b && all_reduced ws)
+unfolding all_reduced
+from_the_left [] true = refl
+from_the_left [] false = refl
+from_the_left (w ∷ ws) true = from_the_left ws (ltb w p)
+from_the_left (w ∷ ws) false = from_the_left ws false
 
 pub returns : goal.returns
-returns c = sym (all_reduced_lem _ (λ i h. c.loop-i.invariant.1 i (omega arith)))
+returns c =
+    fold_from_yields_List _ (λ all w. all && ltb w p) _ _ c.fold.ensures.ran (YieldsList-from_slice c.args.words.now cc) (λ a x b q k. search rules)
+    ∙ from_the_left c.args.words.now true

@@ -1,9 +1,10 @@
--- `table::are_ten_reduced` meets its contract: each word has its test. Assumes nothing.
-use borrow.Author.Rules.{rules}
-use Rattle.table.proofs.Tens.{ten_below}
+-- `table::are_ten_reduced` meets its contract: the ten words are a part of the words. Assumes nothing.
+use Rattle.std.proofs.Common.{sym, ◌∙◌, arith}
+use Rattle.std.proofs.lemmas.Grind.{common_steps}
+use Rattle.table.specs.Tens.{TenBelow}
+use Rattle.table.proofs.Rows.{reduced_word}
 use Rattle.table.proofs.are_ten_reduced.Goals as goal
 
 pub returns : goal.returns
-returns c =
-    λ e. ten_below _ _ (search rules) (search rules) (search rules) (search rules) (search rules)
-    (search rules) (search rules) (search rules) (search rules) (search rules)
+unfolding TenBelow
+returns c = λ e k h. grind (arith, common_steps, reduced_word _ (sym c.all_reduced.ensures ∙ e) k)

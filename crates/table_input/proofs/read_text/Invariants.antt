@@ -1,9 +1,7 @@
--- `table_input::read_text` meets its contract. The invariant: the numbers that are due have places. The measure is the parts that are left.
-use Rattle.table_text.specs.TableText.{Within}
+-- `table_input::read_text` meets its contract. The invariant: the numbers that are due have places.
+use Prim.Native.Nat.{◌≤◌}
+use lib.ListN.{length}
 use Rattle.table_input.proofs.read_text.Given as goal
 
-abbrev pub invariant-loop-parts : goal.invariant-loop-parts
-invariant-loop-parts l = Within l.stage
-
-abbrev pub decreases-loop-parts : goal.decreases-loop-parts
-decreases-loop-parts l = l.parts
+abbrev pub invariant-loop : goal.invariant-loop
+invariant-loop g l = (g.S.Sheet.room ≤ length l.words) × g.S.Sheet.Fits l.reader.sheet

@@ -1,27 +1,31 @@
 -- `table_text::put_ended` meets its contract: a case for what the text is.
+use native.Mathlib.Omega.{arith}
+use mathlib.Core.Path.{ap, ◌∙◌}
+use Rattle.std.specs.Prelude.{Err}
 use Rattle.text.proofs.Lengths.{malformed_bound, too_many_bound}
-use Rattle.table_text.proofs.Answering.{answer_put, rows_most}
+use Rattle.table_text.proofs.Answering.{answer_put}
 use borrow.Author.Rules.{rules}
 use Rattle.table_text.proofs.put_ended.Goals as goal
 
 pub put_malformed-requires : goal.put_malformed-requires
-put_malformed-requires c = let b = malformed_bound c.in-Malformed.line in search rules
+put_malformed-requires c = omega (arith, c.requires.2, malformed_bound c.in-Err-Malformed.line)
 
 pub put_too_many-requires : goal.put_too_many-requires
-put_too_many-requires c = let b = too_many_bound c.in-TooMany.rows 16384 in search rules
+put_too_many-requires c = omega (arith, c.requires.2, too_many_bound c.in-Err-TooMany.rows 16384)
 
 pub put_table-requires : goal.put_table-requires
-put_table-requires c =
-    (search rules, search rules, search rules, rows_most c.end_number-ended.result c.judge_end.result c.in-Rows.rows c.judge_end.ensures c.in-Rows.is c.end_number-ended.ensures.within)
+put_table-requires c = (search rules, search rules, search rules, c.in-Ok.ensures.few)
 
-pub returns-in-Malformed : goal.returns-in-Malformed
-returns-in-Malformed c =
-    answer_put _ _ _ c.end_number-ended.ensures _ c.judge_end.ensures _ c.in-Malformed.is c.put_malformed.ensures
+pub returns-in-Err-Malformed : goal.returns-in-Err-Malformed
+returns-in-Err-Malformed c =
+    let is = c.in-Err-Malformed.is ∙ ap Err c.in-Err-Malformed.field-0-is in
+    answer_put _ _ _ c.judge_end.ensures.words _ c.judge_end.ensures.taken _ is c.put_malformed.ensures
 
-pub returns-in-TooMany : goal.returns-in-TooMany
-returns-in-TooMany c =
-    answer_put _ _ _ c.end_number-ended.ensures _ c.judge_end.ensures _ c.in-TooMany.is c.put_too_many.ensures
+pub returns-in-Err-TooMany : goal.returns-in-Err-TooMany
+returns-in-Err-TooMany c =
+    let is = c.in-Err-TooMany.is ∙ ap Err c.in-Err-TooMany.field-0-is in
+    answer_put _ _ _ c.judge_end.ensures.words _ c.judge_end.ensures.taken _ is c.put_too_many.ensures
 
-pub returns-in-Rows : goal.returns-in-Rows
-returns-in-Rows c =
-    answer_put _ _ _ c.end_number-ended.ensures _ c.judge_end.ensures _ c.in-Rows.is c.put_table.ensures
+pub returns-in-Ok : goal.returns-in-Ok
+returns-in-Ok c =
+    answer_put _ _ _ c.judge_end.ensures.words _ c.judge_end.ensures.taken _ c.in-Ok.is c.put_table.ensures

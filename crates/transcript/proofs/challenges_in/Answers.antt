@@ -13,14 +13,13 @@ use Rattle.transcript.proofs.challenges_in.Invariants.{word_at}
 use Rattle.transcript.proofs.challenges_in.Goals as goal
 
 pub loop-i-init : goal.loop-i-init
-loop-i-init c = (search rules, refl, refl)
+loop-i-init c = (refl, refl)
 
 pub loop-i-preserved : goal.loop-i-preserved
 loop-i-preserved c =
     let s = c.args.input.now in (
-      search rules,
       simp length-set (search rules),
-      c.loop-i.invariant.2 ∙ map_turn (word_at s) c.loop-i.i challenge_words c.word_at.result c.loop-i.challenges c.loop-i-test.true c.word_at.ensures,
+      c.loop-i.invariant.1 ∙ map_turn (word_at s) c.loop-i.i challenge_words c.word_at.result c.loop-i.challenges c.loop-i-test.true c.word_at.ensures,
     )
 
 pub returns : goal.returns
@@ -28,4 +27,4 @@ unfolding input_challenges
 returns c =
     let s = c.args.input.now in
     let done = places_done c.loop-i.i challenge_words c.loop-i-test.false in
-    sym (c.loop-i.invariant.2 ∙ ap (λ (is : List ℕ). sets c.loop-i.challenges c.loop-i.i (map (word_at s) is)) done) ∙ fifteen (word_at s)
+    sym (c.loop-i.invariant.1 ∙ ap (λ (is : List ℕ). sets c.loop-i.challenges c.loop-i.i (map (word_at s) is)) done) ∙ fifteen (word_at s)

@@ -1,5 +1,5 @@
--- What the loop of `challenges_in` keeps, and what falls with each turn.
-use Prim.Native.Nat.{ℕ, ◌≤◌, ◌-◌, ◌*◌}
+-- What the loop of `challenges_in` keeps.
+use Prim.Native.Nat.{ℕ, ◌-◌, ◌*◌}
 use mathlib.Core.Path.{◌≡◌}
 use mathlib.Core.List.{List, map}
 use lib.ListN.{length}
@@ -15,9 +15,6 @@ word_at input i = le_at input (8 * i) 8
 
 abbrev pub invariant-loop-i : goal.invariant-loop-i
 invariant-loop-i l =
-    (l.i ≤ challenge_words) × (length l.challenges ≡ challenge_words)
+    (length l.challenges ≡ challenge_words)
     × (sets l.initial.challenges 0 (map (word_at l.input) (places challenge_words))
     ≡ sets l.challenges l.i (map (word_at l.input) (places_from l.i (challenge_words - l.i))))
-
-abbrev pub decreases-loop-i : goal.decreases-loop-i
-decreases-loop-i l = challenge_words - l.i

@@ -1,11 +1,11 @@
--- `transcript::put_calls` meets its contract: a refusal is the text; else it is what the other three calls lead to.
+-- `transcript::put_calls` meets its contract: a refusal goes on as it is; else the text is what the other three calls lead to.
+use Rattle.std.proofs.Common.{refl}
+use Rattle.words.proofs.Judgements.{handed_on}
 use Rattle.transcript.proofs.Steps.{filling_refused, filling_made}
 use Rattle.transcript.proofs.put_calls.Goals as goal
 
-pub returns-in-Refused : goal.returns-in-Refused
-returns-in-Refused c =
-    filling_refused _ _ _ _ _ _ c.in-Refused.reason _ (rw c.in-Refused.is at c.fill.ensures) c.put_reason.ensures
+pub returns-in_err-fill : goal.returns-in_err-fill
+returns-in_err-fill c = rw (handed_on _ c.from_residual.ensures.1) (filling_refused _ _ _ _ _ _ _ c.in_err-fill.ensures, refl)
 
-pub returns-in-Rows : goal.returns-in-Rows
-returns-in-Rows c =
-    filling_made _ _ _ _ _ _ _ _ (rw c.in-Rows.is at c.fill.ensures) c.put_padded.ensures
+pub returns : goal.returns
+returns c = rw (filling_made _ _ _ _ _ _ _ c.in_ok-fill.ensures) c.put_filled.ensures

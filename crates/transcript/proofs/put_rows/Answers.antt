@@ -1,6 +1,6 @@
 -- `transcript::put_rows` meets its contract. The invariant: the lines of the rows passed have been put.
 use borrow.Author.Rules.{rules}
-use mathlib.Core.Path.{◌≡◌, refl, ap}
+use mathlib.Core.Path.{◌≡◌, ap}
 use mathlib.Core.List.{List}
 use Prim.Native.Nat.{ℕ, ◌+◌, ◌-◌, ◌*◌, ◌≤◌}
 use native.Mathlib.Numerals.{add-one}
@@ -8,16 +8,13 @@ use native.Mathlib.Omega.{arith}
 use lib.ListN.{length, take, drop}
 use Rattle.table.specs.Columns.{main_width, row_at}
 use Rattle.text.specs.Lines.{row_line}
-use Rattle.text.specs.Put.{Put}
-use Rattle.text.proofs.Putting.{put_none, put_then}
+use Rattle.text.specs.declared.Text.{Text}
+use Rattle.text.specs.Put.{Adds}
+use Rattle.text.proofs.Adding.{adds_none, adds_then, reached}
 use Rattle.transcript.specs.Transcript.{row_lines}
 use Rattle.transcript.proofs.Rows.{row_words_lem}
 use Rattle.transcript.proofs.Fits.{row_ten, rows_bound}
 use Rattle.transcript.proofs.put_rows.Goals as goal
-
-none : (table d : List ℕ) (a : ℕ) → a ≤ length d → Put d a (row_lines table 0) d a
-unfolding row_lines
-none table d a h = put_none d a h
 
 module _ (table : List ℕ) (i : ℕ) (whole : main_width * i + main_width ≤ length table) where
   -- the part of the table that a turn lends
@@ -30,35 +27,27 @@ module _ (table : List ℕ) (i : ℕ) (whole : main_width * i + main_width ≤ l
   part_bound : length (row_line part) ≤ 210
   part_bound = rw (row_words_lem table i whole) (row_ten (row_at table i))
 
-  turn : {d d1 d2 : List ℕ} {a a1 a2 : ℕ} → Put d a (row_lines table i) d1 a1 → Put d1 a1 (row_line part) d2 a2
-      → Put d a (row_lines table (i + 1)) d2 a2
+  turn : {old mid new : Text} → Adds old (row_lines table i) mid → Adds mid (row_line part) new → Adds old (row_lines table (i + 1)) new
   unfolding row_lines
-  turn p q = rw add-one (put_then p (rw (row_words_lem table i whole) at q))
-
-ends : {d d1 : List ℕ} {a a1 : ℕ} (table : List ℕ) (i n : ℕ) → i ≤ n → n ≤ i
-    → Put d a (row_lines table i) d1 a1 → Put d a (row_lines table n) d1 a1
-ends table i n h g p = let e : i ≡ n = omega arith in rw e at p
+  turn p q = rw add-one (adds_then p (rw (row_words_lem table i whole) at q))
 
 pub loop-row-init : goal.loop-row-init
-loop-row-init c = (search rules, refl, none _ _ _ (search rules))
+unfolding row_lines
+loop-row-init c = adds_none _ (omega (arith, c.requires.2))
 
-pub put_row-next-requires : goal.put_row-next-requires
-put_row-next-requires c =
+pub put_row-requires : goal.put_row-requires
+put_row-requires c =
     let t = c.args.table.now in
     let whole : main_width * c.loop-row.row + main_width ≤ length t = search rules in
-    let l = part_length t c.loop-row.row whole in
-    let b = part_bound t c.loop-row.row whole in
-    let r = rows_bound t c.loop-row.row in
-    let q = c.loop-row.invariant.2.place in
-    (omega arith, omega arith)
+    let r = reached c.loop-row.invariant in
+    record {
+      not_empty = omega (arith, part_length t c.loop-row.row whole);
+      room = omega (arith, c.requires.2, r.len, r.size, part_bound t c.loop-row.row whole, rows_bound t c.loop-row.row, c.loop-row-test.true);
+    }
 
 pub loop-row-preserved : goal.loop-row-preserved
 loop-row-preserved c =
-    let t = c.args.table.now in
-    (search rules, search rules, turn t c.loop-row.row (search rules) c.loop-row.invariant.2 c.put_row-next.ensures)
-
-pub shape_of-out : goal.shape_of-out
-shape_of-out c = c.loop-row.invariant.1
+    turn c.args.table.now c.loop-row.row (search rules) c.loop-row.invariant c.put_row.ensures
 
 pub returns : goal.returns
-returns c = ends _ c.loop-row.row _ (search rules) (search rules) c.loop-row.invariant.2
+returns c = let e : c.loop-row.row ≡ c.args.n = search rules in rw e at c.loop-row.invariant

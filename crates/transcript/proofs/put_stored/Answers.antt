@@ -1,11 +1,12 @@
--- `transcript::put_stored` meets its contract: a refusal is the text; else it is the text of the list that was read.
+-- `transcript::put_stored` meets its contract: a refusal goes on as it is; else it is the text of the list that was read.
+use Rattle.std.proofs.Common.{refl}
+use Rattle.words.proofs.Judgements.{handed_on}
 use Rattle.transcript.proofs.Steps.{reading_refused, reading_made}
 use Rattle.transcript.proofs.put_stored.Goals as goal
 
-pub returns-in-Refused : goal.returns-in-Refused
-returns-in-Refused c =
-    reading_refused _ _ _ c.in-Refused.reason (rw c.in-Refused.is at c.read_list-reading.ensures) c.put_reason.ensures
+pub returns-in_err-read_list : goal.returns-in_err-read_list
+returns-in_err-read_list c =
+    rw (handed_on _ c.from_residual.ensures.1) (reading_refused _ _ _ c.in_err-read_list.ensures.outcome, refl)
 
-pub returns-in-Entries : goal.returns-in-Entries
-returns-in-Entries c =
-    reading_made _ _ _ _ (rw c.in-Entries.is at c.read_list-reading.ensures) c.put_list.ensures
+pub returns : goal.returns
+returns c = rw (reading_made _ _ _ c.in_ok-read_list.ensures.outcome) (rw c.view.ensures at c.put_list.ensures)

@@ -28,8 +28,5 @@ loop-i-init c = (search rules, refl, rw (add-zero, sub-zero))
 pub loop-i-preserved : goal.loop-i-preserved
 loop-i-preserved c = (search rules, simp length-set (search rules), c.loop-i.invariant.2 ∙ turn _ _ _ _ _ (search rules))
 
-pub shape_of-bytes : goal.shape_of-bytes
-shape_of-bytes c = c.loop-i.invariant.1
-
 pub returns : goal.returns
 returns c = ends _ _ _ _ _ (search rules) ∙ sym c.loop-i.invariant.2

@@ -1,4 +1,4 @@
--- What the loop of `put_le` keeps, and what falls with each turn.
+-- What the loop of `put_le` keeps.
 use mathlib.Core.Path.{◌≡◌}
 use Prim.Native.Nat.{◌+◌, ◌-◌, ◌≤◌}
 use lib.ListN.{length}
@@ -9,6 +9,3 @@ use Rattle.words.proofs.put_le.Given as goal
 abbrev pub invariant-loop-i : goal.invariant-loop-i
 invariant-loop-i l =
     (l.i ≤ l.k) × (length l.bytes ≡ length l.initial.bytes) × (sets l.initial.bytes l.at (le l.k l.n) ≡ sets l.bytes (l.at + l.i) (le (l.k - l.i) l.rest))
-
-abbrev pub decreases-loop-i : goal.decreases-loop-i
-decreases-loop-i l = l.k - l.i

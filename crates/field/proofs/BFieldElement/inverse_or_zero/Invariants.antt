@@ -1,5 +1,5 @@
--- `inverse_or_zero` answers the inverse modulo p, or 0: the loop keeps `Turning`, its two ends are `ends_low` and `ends_high`, and r1
--- falls with each turn. Assumes nothing.
+-- `inverse_or_zero` answers the inverse modulo p, or 0: the loop keeps `Turning`; its two ends
+-- are `table_low` and `table_high`, where the inverse of the remainder is looked up. r1 falls with each turn. Assumes nothing.
 use Rattle.field.proofs.Euclid.{Turning}
 use Rattle.field.proofs.BFieldElement.inverse_or_zero.Given as goal
 

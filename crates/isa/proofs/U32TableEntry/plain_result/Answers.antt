@@ -1,24 +1,24 @@
 -- `isa::U32TableEntry::plain_result` meets its contract. In an arm the opcode is known, so the definition computes to that opcode's plain function.
-use Prim.Native.Nat.{ℕ, ◌<◌, ◌≤◌}
-use mathlib.Core.Path.{◌≡◌, sym, ◌∙◌}
-use mathlib.Core.Logic.{◌≢◌}
-use native.Mathlib.Omega.{arith}
-use borrow.Author.Rules.{rules}
-use borrow.Author.Tests.{ne_eqb}
-use lib.Bits.{bit_and}
-use lib.Count.{ones, ones-le}
-use Rattle.isa.specs.PlainFunctions.{plain_and, plain_pow, plain_result, floor_log2}
+use Rattle.std.proofs.Common.{ℕ, ◌≡◌, ◌≢◌, refl, sym, ◌∙◌, inl, inr, Bool, true, false, cond, ltb, bit_and}
+use Rattle.std.specs.Int.{from_bool}
+use Rattle.std.specs.Int.Count.{ones}
+use Rattle.std.proofs.lemmas.Bool.{ne_eqb}
+use Rattle.isa.specs.PlainFunctions.{plain_lt, plain_and, plain_pow, plain_result, floor_log2}
 use Rattle.field.specs.Elements.{pow_f}
-use Rattle.isa.proofs.PlainLaws.{lt_one, lt_zero, one_bits_ones, result_lt, result_and, result_log, result_pow, result_pop_count}
+use Rattle.isa.proofs.Entries.{not_one_of_six}
+use Rattle.isa.proofs.PlainLaws.{one_bits_ones, result_lt, result_and, result_log, result_pow, result_pop_count}
+use Rattle.isa.proofs.Opcodes.{opcode_at}
 use Rattle.isa.proofs.U32TableEntry.plain_result.Goals as goal
+
+as_bit : (b : Bool) → cond b 1 0 ≡ from_bool b
+as_bit true = refl
+as_bit false = refl
 
 -- ---- the definition at each opcode
 module _ {o : ℕ} (l r : ℕ) where
-  less : o ≡ 6 → l < r → plain_result o l r ≡ 1
-  less k h = rw k (result_lt l r ∙ lt_one h)
-
-  not_less : o ≡ 6 → r ≤ l → plain_result o l r ≡ 0
-  not_less k h = rw k (result_lt l r ∙ lt_zero h)
+  less_bit : o ≡ 6 → plain_result o l r ≡ from_bool (ltb l r)
+  unfolding plain_lt
+  less_bit k = rw k (result_lt l r ∙ as_bit (ltb l r))
 
   both_bits : o ≡ 14 → plain_result o l r ≡ bit_and l r
   unfolding plain_and
@@ -34,31 +34,36 @@ module _ {o : ℕ} (l r : ℕ) where
   counted : o ≡ 28 → plain_result o l r ≡ ones l
   counted k = rw k (result_pop_count l r ∙ one_bits_ones l)
 
+  split_none : o ≡ 4 → plain_result o l r ≡ 0
+  unfolding plain_result
+  split_none k = rw k refl
+
   -- "0 for split"
   none : o ≢ 6 → o ≢ 14 → o ≢ 12 → o ≢ 30 → o ≢ 28 → plain_result o l r ≡ 0
   unfolding plain_result
   none a b d f g = simp (ne_eqb o 6 a, ne_eqb o 14 b, ne_eqb o 12 d, ne_eqb o 30 f, ne_eqb o 28 g)
 
-pub overflow_cast-result : goal.overflow_cast-result
-overflow_cast-result c = record { fits = omega (arith, ones-le 64 c.args.self.left_operand (omega arith)) }
+pub returns-in-Ok-Lt : goal.returns-in-Ok-Lt
+returns-in-Ok-Lt c = c.from.ensures ∙ sym (less_bit _ _ (opcode_at c.in-Ok-Lt.ensures c.in-Ok-Lt.field-0-is))
 
-pub returns-then-self : goal.returns-then-self
-returns-then-self c = sym (less _ _ c.in-6.is c.if-self.true)
+pub returns-in-Ok-And : goal.returns-in-Ok-And
+returns-in-Ok-And c = sym (both_bits _ _ (opcode_at c.in-Ok-And.ensures c.in-Ok-And.field-0-is))
 
-pub returns-else-self : goal.returns-else-self
-returns-else-self c = sym (not_less _ _ c.in-6.is c.if-self.false)
+pub returns-in-Ok-Log2Floor : goal.returns-in-Ok-Log2Floor
+returns-in-Ok-Log2Floor c =
+    c.floor_log2.ensures.exact ∙ sym (logarithm _ _ (opcode_at c.in-Ok-Log2Floor.ensures c.in-Ok-Log2Floor.field-0-is))
 
-pub returns-in-14 : goal.returns-in-14
-returns-in-14 c = sym (both_bits _ _ c.in-14.is)
+pub returns-in-Ok-Pow : goal.returns-in-Ok-Pow
+returns-in-Ok-Pow c = c.pow.ensures ∙ sym (power _ _ (opcode_at c.in-Ok-Pow.ensures c.in-Ok-Pow.field-0-is))
 
-pub returns-in-12 : goal.returns-in-12
-returns-in-12 c = c.floor_log2.ensures.exact ∙ sym (logarithm _ _ c.in-12.is)
+pub returns-in-Ok-PopCount : goal.returns-in-Ok-PopCount
+returns-in-Ok-PopCount c =
+    c.from-in-Ok-PopCount.ensures ∙ sym (counted _ _ (opcode_at c.in-Ok-PopCount.ensures c.in-Ok-PopCount.field-0-is))
 
-pub returns-in-30 : goal.returns-in-30
-returns-in-30 c = c.pow.ensures ∙ sym (power _ _ c.in-30.is)
+pub returns-in-Ok-Split : goal.returns-in-Ok-Split
+returns-in-Ok-Split c = sym (split_none _ _ (opcode_at c.in-Ok-Split.ensures c.in-Ok-Split.field-0-is))
 
-pub returns-in-28 : goal.returns-in-28
-returns-in-28 c = sym (counted _ _ c.in-28.is)
-
-pub returns-in_default : goal.returns-in_default
-returns-in_default c = sym (none _ _ (search rules) (search rules) (search rules) (search rules) (search rules))
+pub returns-in-Err : goal.returns-in-Err
+returns-in-Err c =
+    let other = not_one_of_six _ c.in-Err.ensures.0 in
+    sym (none _ _ (λ e. other (inr (inl e))) (λ e. other (inr (inr (inr (inl e))))) (λ e. other (inr (inr (inl e)))) (λ e. other (inr (inr (inr (inr (inr e)))))) (λ e. other (inr (inr (inr (inr (inl e)))))))

@@ -13,4 +13,4 @@ returns c =
     (ext_path adjugate.first adjugate.second adjugate.third)
     c.first_of_product-norm.ensures
     c.inverse_or_zero.ensures
-    c.scale.ensures
+    c.mul.ensures

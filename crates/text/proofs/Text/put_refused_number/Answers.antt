@@ -1,0 +1,19 @@
+-- `Text::put_refused_number` meets its contract: the word, then the number.
+use native.Mathlib.Omega.{arith}
+use Rattle.text.specs.Lines.{line, refused_line}
+use Rattle.text.proofs.Adding.{adds_then, reached}
+use Rattle.text.proofs.Text.put_refused_number.Goals as goal
+
+pub put_str-requires : goal.put_str-requires
+unfolding refused_line line
+put_str-requires c = omega (arith, c.requires)
+
+pub put_rest-requires : goal.put_rest-requires
+unfolding refused_line line
+put_rest-requires c =
+    let r = reached c.put_str.ensures in
+    omega (arith, c.requires, r.len, r.size)
+
+pub returns : goal.returns
+unfolding refused_line line
+returns c = adds_then c.put_str.ensures c.put_rest.ensures

@@ -1,6 +1,0 @@
--- `vectors::numbers` is safe and ends: the numbers left to read fall. Assumes nothing.
-use Rattle.std.proofs.Common.{◌-◌}
-use Rattle.vectors.proofs.numbers.Given as goal
-
-abbrev pub decreases-loop-i : goal.decreases-loop-i
-decreases-loop-i l = l.count - l.i

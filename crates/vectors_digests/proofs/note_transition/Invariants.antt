@@ -1,9 +1,0 @@
--- `vectors_digests::note_transition` is safe and ends: what is left to do falls. Assumes nothing.
-use Rattle.std.proofs.Common.{◌-◌, ◌≤◌}
-use Rattle.vectors_digests.proofs.note_transition.Given as goal
-
-abbrev pub invariant-loop-i : goal.invariant-loop-i
-invariant-loop-i l = l.i ≤ 22
-
-abbrev pub decreases-loop-i : goal.decreases-loop-i
-decreases-loop-i l = 22 - l.i
