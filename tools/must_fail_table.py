@@ -58,11 +58,15 @@ def told(logs):
     return found
 
 
+FUNCTION = re.compile(r'( *)(?:pub(?:\([^)]*\))? )?(?:const )?(?:unsafe )?(?:extern "C" )?fn (\w+)')
+
+
 def function_at(path, number):
-    """The function whose item begins at a line or a few below it, with the type of its `impl`."""
+    """The function that a line belongs to, with the type of its `impl`: its item begins there or a few lines below, under attributes, or the line is in its body."""
     lines = path.read_text().splitlines()
-    for k in range(number - 1, min(number + 9, len(lines))):
-        found = re.match(r'( *)(?:pub(?:\([^)]*\))? )?(?:const )?(?:unsafe )?(?:extern "C" )?fn (\w+)', lines[k])
+    at_item = re.match(r" *(#|//|pub\b|const\b|unsafe\b|extern\b|fn\b)", lines[number - 1])
+    for k in range(number - 1, min(number + 9, len(lines))) if at_item else range(number - 1, -1, -1):
+        found = FUNCTION.match(lines[k])
         if found:
             above = (re.match(r"impl(?:<[^>]*>)? (?:.* for )?(\w+)", line) for line in reversed(lines[:k]))
             owner = next((a.group(1) for a in above if a), None) if found.group(1) else None

@@ -3,7 +3,7 @@ use Rattle.std.specs.Prelude.{ℕ, zero, suc, ◌+◌, ◌-◌, ◌<◌, ◌≡�
 use Rattle.words.specs.Answers.{Answer, done, declined}
 use Rattle.words.specs.Refusals.{decline_if, or_else, Judgement, Fine, Declined}
 use Rattle.words.specs.declared.Refusal.TheVariants.{Shape, Short, Unreduced}
-use Rattle.xfield.specs.Extension.{Ext, zero_x, is_zero_x}
+use Rattle.xfield.specs.Extension.{Ext, words_x, zero_x, is_zero_x}
 use Rattle.table.specs.Columns.{row_at, row_count, aux_at, table_shape, aux_shape, all_reduced}
 use Rattle.table.specs.Challenges.{challenges_of, challenges_shape}
 use Rattle.air.specs.Constraints.{initial_constraints, consistency_constraints, transition_constraints, terminal_constraints}
@@ -51,7 +51,7 @@ zero_answer = done []
 
 -- "group 0 to 3, (upper) row, index from 0 and three-word value"
 abbrev pub nonzero : ℕ → ℕ → ℕ → Ext → Answer
-nonzero group row index v = done (group ∷ row ∷ index ∷ v.a ∷ v.b ∷ v.c ∷ [])
+nonzero group row index v = done (group ∷ row ∷ index ∷ words_x v)
 
 -- the first value, from an index on, that is not zero; `next` where there is none
 unfoldable pub first_in : ℕ → ℕ → ℕ → List Ext → Answer → Answer

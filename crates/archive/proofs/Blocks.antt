@@ -1,44 +1,47 @@
--- Words in blocks of one size: where a word of a block stands, bytes of blocks, and blocks that are one run. No product of two numbers that are not
--- known is compared but by `in_blocks` and `block_end`. Assumes nothing.
+-- Words in blocks of one size: where a word of a block stands, bytes of blocks, and blocks that are one run; and a run at the front of a part. No
+-- product of two numbers that are not known is compared but by `in_blocks` and `block_end`. Assumes nothing.
 use Prim.Native.Nat.{ℕ, zero, suc, ◌+◌, ◌*◌, ◌-◌, ◌≤◌, ◌<◌}
 use mathlib.Core.Path.{◌≡◌, refl, sym, ap, ap₂, ◌∙◌}
 use mathlib.Core.List.{List, [], ◌∷◌, ◌++◌, map, flat_map, append_assoc}
-use native.Mathlib.Nat.{zero-add, add-zero, add-suc, suc-add, mul-suc, mul-zero, mul-le-mul_left}
+use native.Mathlib.Nat.{zero-add, add-zero, add-suc, suc-add, mul-suc, mul-zero}
 use native.Mathlib.Omega.{arith}
-use lib.ListN.{length, get_or, set}
-use lib.Seq.{sets}
+use lib.ListN.{length, get_or, set, take, drop, length-drop}
+use lib.Seq.{sets, sets-eq, length-take-le, drop-drop}
+use borrow.Rule.Slice.PartMut.{put_mid}
+use Rattle.std.proofs.lemmas.List.{take-append-drop, drop-append-le}
+use Rattle.std.proofs.lemmas.Grind.{flat_map-append}
+use Rattle.words.proofs.Sets.{sets_front}
 use Rattle.words.specs.Places.{places_from, places}
 use Rattle.words.proofs.Places.{places_step}
+pub use Rattle.words.proofs.Places.{block_end}
 
 -- ---- where a word of a block stands
-
--- block j of n blocks ends within them
-pub block_end : (w j n : ℕ) → j < n → w * j + w ≤ w * n
-block_end w j n h =
-    let l : suc j ≤ n = omega arith in
-    let m : w * suc j ≤ w * n = mul-le-mul_left w l in
-    omega (arith, mul-suc w j)
 
 pub in_blocks : (n w c i : ℕ) → c < w → i < n → n * c + i < n * w
 in_blocks n w c i h l = omega (arith, block_end n c w h)
 
--- ---- a value for each element
+-- ---- parts
 
-pub flat_append : (f : ℕ → List ℕ) (xs ys : List ℕ) → flat_map f (xs ++ ys) ≡ flat_map f xs ++ flat_map f ys
-unfolding flat_map
-flat_append f [] ys = refl
-flat_append f (x ∷ xs) ys =
-    ap (λ (l : List ℕ). f x ++ l) (flat_append f xs ys) ∙ sym (append_assoc (f x) (flat_map f xs) (flat_map f ys))
+-- a run at the front of a part, when the part is back
+pub part_put : (a k : ℕ) (xs vs ys : List ℕ) → ys ≡ sets (take k (drop a xs)) 0 vs → length vs ≤ k → a + k ≤ length xs
+    → put_mid a k xs ys ≡ sets xs a vs
+part_put a k xs vs ys e fits within =
+    let n = length vs in
+    let rest = drop a xs in
+    let long : length (take k rest) ≡ k = length-take-le k rest (omega (arith, length-drop a xs)) in
+    let after : drop n (take k rest) ++ drop k rest ≡ drop (a + n) xs
+    = sym (drop-append-le n (take k rest) (drop k rest) (omega (arith, long))) ∙ ap (drop n) (take-append-drop k rest) ∙ drop-drop n a xs in
+    ap (λ (l : List ℕ). take a xs ++ (l ++ drop k rest)) (e ∙ sets_front vs (take k rest) (omega (arith, long)))
+    ∙ ap (λ (l : List ℕ). take a xs ++ l) (append_assoc vs (drop n (take k rest)) (drop k rest) ∙ ap (λ (l : List ℕ). vs ++ l) after)
+    ∙ sym (append_assoc (take a xs) vs (drop (a + n) xs))
+    ∙ sym (sets-eq vs xs a (omega arith))
+
+-- ---- a value for each element
 
 pub flat_flat : (f g : ℕ → List ℕ) (is : List ℕ) → flat_map f (flat_map g is) ≡ flat_map (λ i. flat_map f (g i)) is
 unfolding flat_map
 flat_flat f g [] = refl
-flat_flat f g (i ∷ is) = flat_append f (g i) (flat_map g is) ∙ ap (λ (l : List ℕ). flat_map f (g i) ++ l) (flat_flat f g is)
-
-pub flat_map_lem : (f : ℕ → List ℕ) (g : ℕ → ℕ) (is : List ℕ) → flat_map f (map g is) ≡ flat_map (λ i. f (g i)) is
-unfolding flat_map
-flat_map_lem f g [] = refl
-flat_map_lem f g (i ∷ is) = ap (λ (l : List ℕ). f (g i) ++ l) (flat_map_lem f g is)
+flat_flat f g (i ∷ is) = flat_map-append f (g i) (flat_map g is) ∙ ap (λ (l : List ℕ). flat_map f (g i) ++ l) (flat_flat f g is)
 
 -- a turn of a loop that stores a word for each place from `at` on
 pub word_turn : (m : ℕ → ℕ) (at i n v : ℕ) (d : List ℕ) → i < n → v ≡ m i

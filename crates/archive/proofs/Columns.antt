@@ -5,8 +5,9 @@ use mathlib.Core.Path.{◌≡◌, sym, ap, ◌∙◌}
 use mathlib.Core.Bool.{true, false}
 use mathlib.Core.List.{List, ◌++◌, flat_map}
 use native.Mathlib.Omega.{arith}
-use lib.ListN.{length, get_or}
-use lib.Seq.{sets}
+use lib.ListN.{length, get_or, take, drop}
+use lib.Seq.{sets, length-sets}
+use borrow.Rule.Slice.PartMut.{put_mid}
 use Rattle.field.specs.Elements.{p}
 use Rattle.words.specs.LittleEndian.{le}
 use Rattle.words.specs.Places.{places}
@@ -16,8 +17,10 @@ use Rattle.words.proofs.Sets.{sets_then}
 use Rattle.table.specs.Columns.{main_width, aux_width, row_count, all_reduced}
 use Rattle.table.proofs.Rows.{all_reduced_lem}
 use Rattle.table.proofs.Shapes.{word_above}
-use Rattle.archive.specs.Archives.{word_width, column, columns, archive_words, archive_bytes, archived_word, archived_rows, archived_words}
-use Rattle.archive.proofs.Blocks.{flat_append, flat_flat, flat_map_lem}
+use Rattle.archive.specs.Archives.{word_width, archive_length, column, columns, archive_words, archive_bytes, archived_word, archived_rows, archived_words}
+use Rattle.std.proofs.lemmas.Grind.{flat_map-append}
+use Rattle.std.proofs.lemmas.List.Folds.{flat_map-map}
+use Rattle.archive.proofs.Blocks.{block_end, part_put, flat_flat}
 
 module _ (w : ℕ) (ws : List ℕ) (n : ℕ) where
   -- the bytes of column c
@@ -29,7 +32,8 @@ module _ (w : ℕ) (ws : List ℕ) (n : ℕ) where
   cell_bytes c i = le word_width (get_or ws (w * i + c) 0)
 
   pub column_bytes_lem : (c : ℕ) → column_bytes c ≡ flat_map (cell_bytes c) (places n)
-  column_bytes_lem c = flat_map_lem (le word_width) (λ i. get_or ws (w * i + c) 0) (places n)
+  unfolding flat_map
+  column_bytes_lem c = flat_map-map (le word_width) (λ i. get_or ws (w * i + c) 0) (places n)
 
   pub columns_bytes : flat_map (le word_width) (columns w ws n) ≡ flat_map column_bytes (places w)
   unfolding columns
@@ -43,6 +47,15 @@ module _ (w : ℕ) (ws : List ℕ) (n : ℕ) where
 
   pub columns_length : length (flat_map (le word_width) (columns w ws n)) ≡ word_width * n * w
   columns_length = ap length columns_bytes ∙ length_flat column_bytes (word_width * n) (λ c. column_length c) 0 w
+
+  -- column c, stored at the front of what lies from its place on
+  pub column_put : (c : ℕ) (out part : List ℕ)
+      → part ≡ sets (take (length out - word_width * n * c) (drop (word_width * n * c) out)) 0 (column_bytes c)
+      → c < w → word_width * n * w ≤ length out
+      → put_mid (word_width * n * c) (length out - word_width * n * c) out part ≡ sets out (word_width * n * c) (column_bytes c)
+  column_put c out part e h room =
+      part_put (word_width * n * c) (length out - word_width * n * c) out (column_bytes c) part e
+      (omega (arith, column_length c, block_end (word_width * n) c w h)) (omega (arith, block_end (word_width * n) c w h))
 
 -- an archive, stored part by part: the row count, the main columns, the sum columns
 pub put_archive : (table aux d d1 d2 d3 : List ℕ)
@@ -58,9 +71,35 @@ put_archive table aux d d1 d2 d3 e1 e2 e3 =
     let l = columns_length main_width table n in
     e3
     ∙ sym
-    (ap (λ (t : List ℕ). sets d 0 (le word_width n ++ t)) (flat_append (le word_width) (columns main_width table n) (columns aux_width aux n))
+    (ap (λ (t : List ℕ). sets d 0 (le word_width n ++ t)) (flat_map-append (le word_width) (columns main_width table n) (columns aux_width aux n))
     ∙ sets_then (le word_width n) (main ++ sums) d d1 0 word_width e1 (omega (arith, length_le word_width n))
     ∙ sets_then main sums d1 d2 word_width (word_width + word_width * n * main_width) e2 (omega arith))
+
+-- the same, the columns each at the front of what lies from their place on
+module _ (table aux d d1 main_part sums_part : List ℕ) where
+  abbrev sums_at : ℕ
+  sums_at = word_width + word_width * row_count table * main_width
+
+  -- the bytes with the main columns
+  abbrev main_put : List ℕ
+  main_put = put_mid word_width (length d1 - word_width) d1 main_part
+
+  pub put_parts : d1 ≡ sets d 0 (le word_width (row_count table))
+      → main_part ≡ sets (take (length d1 - word_width) (drop word_width d1)) 0 (flat_map (le word_width) (columns main_width table (row_count table)))
+      → sums_part ≡ sets (take (length main_put - sums_at) (drop sums_at main_put)) 0 (flat_map (le word_width) (columns aux_width aux (row_count table)))
+      → archive_length (row_count table) ≤ length d
+      → put_mid sums_at (length main_put - sums_at) main_put sums_part ≡ sets d 0 (archive_bytes table aux)
+  put_parts e1 e2 e3 room =
+      let n = row_count table in
+      let main = flat_map (le word_width) (columns main_width table n) in
+      let sums = flat_map (le word_width) (columns aux_width aux n) in
+      let lm = columns_length main_width table n in
+      let ls = columns_length aux_width aux n in
+      let l1 : length d1 ≡ length d = ap length e1 ∙ length-sets d 0 (le word_width n) in
+      let put : main_put ≡ sets d1 word_width main = part_put word_width (length d1 - word_width) d1 main main_part e2 (omega arith) (omega arith) in
+      let l2 : length main_put ≡ length d = ap length put ∙ length-sets d1 word_width main ∙ l1 in
+      put_archive table aux d d1 main_put _ e1 put
+      (part_put sums_at (length main_put - sums_at) main_put sums sums_part e3 (omega arith) (omega arith))
 
 -- ---- all words of the columns below p, as a loop over the words tells it
 

@@ -1,15 +1,15 @@
 -- Archiving and restoring: what it tells that no reason is given, and what is enough for it. Assumes nothing.
-use Prim.Native.Nat.{ℕ, ◌*◌, ◌≤◌}
+use Prim.Native.Nat.{ℕ, ◌*◌, ◌≤◌, ◌<◌}
 use mathlib.Core.Path.{◌≡◌, refl, ◌∙◌}
 use mathlib.Core.Bool.{Bool, true, false, not, ◌&&◌, ◌||◌, and-eq-true_iff}
 use mathlib.Core.List.{List}
 use native.Mathlib.Omega.{arith}
-use borrow.Author.Tests.{ltb-false, le-ltb, eqb-true, eq-eqb}
+use borrow.Author.Tests.{ltb-false, lt-ltb, le-ltb, eqb-true, eq-eqb}
 use lib.ListN.{length}
 use Rattle.words.specs.Limits.{max_rows}
-use Rattle.words.specs.Refusals.{Fine}
+use Rattle.words.specs.Refusals.{Fine, Declined}
 use Rattle.words.specs.declared.Refusal.TheVariants.{Shape, Short, Unreduced, Torn}
-use Rattle.words.proofs.Judgements.{or_next, or_both, decline_false, decline_fine, decline_not_true, decline_not_fine}
+use Rattle.words.proofs.Judgements.{or_first, or_next, or_both, decline_true, decline_false, decline_fine, decline_not_true, decline_not_fine}
 use Rattle.table.specs.Columns.{aux_width, row_count, table_shape, aux_shape, all_reduced}
 use Rattle.table.proofs.Rows.{TableShape, table_shaped, aux_shaped}
 use Rattle.archive.specs.Archives.{archive_length, archived_rows, archived_words}
@@ -36,6 +36,12 @@ module _ (table aux : List ℕ) where
   shapes_told e = decline_not_fine _ Shape e
 
 -- ---- archiving
+
+-- bytes too few come before words that are p or more
+pub archive_short : (table aux out : List ℕ) → (table_shape table && aux_shape table aux) ≡ true → length out < archive_length (row_count table)
+    → archive_reason table aux out ≡ Declined Short
+unfolding archive_reason
+archive_short table aux out right h = or_next _ (shapes_right table aux right) ∙ or_first _ (decline_true Short (lt-ltb _ _ h))
 
 pub archive_fine : (table aux out : List ℕ) → (table_shape table && aux_shape table aux) ≡ true → archive_length (row_count table) ≤ length out
     → (all_reduced table && all_reduced aux) ≡ true → archive_reason table aux out ≡ Fine

@@ -36,31 +36,31 @@ fn have_shapes(table: &[u64], aux: &[u64]) -> bool
     MainRow::has_shape(table) && AuxRow::has_shape(table, aux)
 }
 
-// Stores column c of rows of so many words each, top to bottom, from byte `at` on.
+// Stores column c of rows of so many words each, top to bottom, at the front of `out`.
 #[tactic(auto, using(crate::proofs::Blocks::in_blocks))]
-fn put_column(cells: &[u64], width: usize, rows: usize, c: usize, out: &mut [u8], at: usize)
-    requires { (c < width) × (width * rows ≤ length cells.now) × (at + word_width * rows ≤ length out.old) }
-    ensures { out.new ≡ sets out.old at (flat_map (le word_width) (column width cells.now rows c)) }
+fn put_column(cells: &[u64], width: usize, rows: usize, c: usize, out: &mut [u8])
+    requires { (c < width) × (width * rows ≤ length cells.now) × (word_width * rows ≤ length out.old) }
+    ensures { out.new ≡ sets out.old 0 (flat_map (le word_width) (column width cells.now rows c)) }
 {
     for i in 0..rows {
-        words::put_le(out, at + WORD_WIDTH * i, WORD_WIDTH, cells[width * i + c]);
+        words::put_le(out, WORD_WIDTH * i, WORD_WIDTH, cells[width * i + c]);
     }
 }
 
-// Stores the columns one after the other from byte `at` on.
+// Stores the columns one after the other at the front of `out`.
 #[tactic(auto, using(crate::proofs::Blocks::block_end))]
-fn put_columns(cells: &[u64], width: usize, rows: usize, out: &mut [u8], at: usize)
-    requires { (rows ≤ max_rows) × (width * rows ≤ length cells.now) × (at + word_width * rows * width ≤ length out.old) }
-    ensures { out.new ≡ sets out.old at (flat_map (le word_width) (columns width cells.now rows)) }
+fn put_columns(cells: &[u64], width: usize, rows: usize, out: &mut [u8])
+    requires { (rows ≤ max_rows) × (width * rows ≤ length cells.now) × (word_width * rows * width ≤ length out.old) }
+    ensures { out.new ≡ sets out.old 0 (flat_map (le word_width) (columns width cells.now rows)) }
 {
     for c in 0..width {
-        put_column(cells, width, rows, c, out, at + WORD_WIDTH * rows * c);
+        put_column(cells, width, rows, c, &mut out[WORD_WIDTH * rows * c..]);
     }
 }
 
 // Turns a table and its sums into bytes: the row count, the ten main columns, the three sum columns. It refuses a table or an aux of the wrong
 // shape, bytes too few, and a word p or more.
-#[tactic(auto, using(crate::proofs::Reasons::shaped, crate::proofs::Columns::put_archive), unfolding(crate::specs::Archives::archive_all, crate::specs::Archives::archive_reason, crate::specs::Archives::shapes))]
+#[tactic(auto, using(crate::proofs::Reasons::shaped, crate::proofs::Columns::put_parts), unfolding(crate::specs::Archives::archive_all, crate::specs::Archives::archive_reason, crate::specs::Archives::shapes))]
 pub fn archive(table: &[u64], aux: &[u64], out: &mut [u8]) -> Result<(), Refusal>
     ensures { Leaves (archive_all table.now aux.now out.old) (completed_answer result) out.new }
 {
@@ -75,14 +75,9 @@ pub fn archive(table: &[u64], aux: &[u64], out: &mut [u8]) -> Result<(), Refusal
         return Err(Refusal::Unreduced);
     }
     words::put_le(out, 0, WORD_WIDTH, rows as u64);
-    put_columns(table, MainRow::WIDTH, rows, out, WORD_WIDTH);
-    put_columns(
-        aux,
-        AuxRow::WIDTH,
-        rows,
-        out,
-        WORD_WIDTH + WORD_WIDTH * rows * MainRow::WIDTH,
-    );
+    let sums = WORD_WIDTH + WORD_WIDTH * rows * MainRow::WIDTH;
+    put_columns(table, MainRow::WIDTH, rows, &mut out[WORD_WIDTH..]);
+    put_columns(aux, AuxRow::WIDTH, rows, &mut out[sums..]);
     Ok(())
 }
 

@@ -27,13 +27,13 @@ use Rattle.fill.specs.Extending.{extend_reason, extend_all}
 use Rattle.extend.specs.Extensions.{extended_answer}
 use Rattle.extend.proofs.Reasons.{extendable}
 use Rattle.archive.specs.Archives.{word_width, archive_length, columns, archive_words, archive_bytes, archive_reason, archive_all}
-use Rattle.archive.proofs.Blocks.{flat_append}
+use Rattle.std.proofs.lemmas.Grind.{flat_map-append}
 use Rattle.archive.proofs.Columns.{columns_length}
 use Rattle.archive.proofs.Reasons.{archive_fine, archivable, shaped}
 use Rattle.text.specs.Lines.{refused_line}
 use Rattle.text.specs.Put.{Put}
 use Rattle.numbers.specs.declared.Fault.{Fault as TextFault}
-use Rattle.table_text.specs.TableText.{Stage, most_rows, end_number, taken_of}
+use Rattle.table_text.specs.TableText.{Stage, most_rows, end_number, taken_of, IsFed}
 use Rattle.archive_text.specs.declared.Fault.{Fault}
 use Rattle.archive_text.specs.declared.Fault.TheVariants.{Taken, Refused}
 use Rattle.archive_text.specs.Outputs.{Output, written, refused, fault_line}
@@ -57,8 +57,9 @@ archive_length_lem table aux =
     let n = row_count table in
     let m = columns main_width table n in
     let a = columns aux_width aux n in
+    let split : flat_map (le word_width) (m ++ a) ≡ flat_map (le word_width) m ++ flat_map (le word_width) a = flat_map-append (le word_width) m a in
     length-append (le word_width n) (flat_map (le word_width) (m ++ a))
-    ∙ rw (length_le, flat_append, length-append, columns_length main_width table n, columns_length aux_width aux n) (omega arith)
+    ∙ rw (length_le, split, length-append, columns_length main_width table n, columns_length aux_width aux n) (omega arith)
 
 module _ (table sums out : List ℕ) (e : archive_reason table sums out ≡ Fine) where
   -- done: the archive is at the front
@@ -118,6 +119,11 @@ module _ (challenges table aux : List ℕ) where
   table_refused reason after l = rw (← l.answer) (output_refused _ reason)
 
 -- ---- what is put
+-- a line goes to standard error, and nothing to standard output
+pub line_packed : {due : Output} {d d1 : List ℕ} {n : ℕ} (line : List ℕ) → due ≡ refused line → Put d 0 line d1 n
+    → (due.out ≡ []) × Put d 0 due.error d1 n
+line_packed line e p = rw e (refl, p)
+
 module _ (due : Output) (before mid : List ℕ) {r : Result ℕ Fault} (step : IsArchived due before mid r) where
   pub archive_packed : {n : ℕ} → r ≡ Ok n → IsPacked due before mid (Ok n)
   archive_packed e = rw e at step
@@ -125,7 +131,7 @@ module _ (due : Output) (before mid : List ℕ) {r : Result ℕ Fault} (step : I
   pub fault_packed : (fault : Fault) → r ≡ Err fault → {after : List ℕ} {n : ℕ} → Put mid 0 (fault_line fault) after n → IsPacked due before after (Err n)
   fault_packed fault e p =
       let s : IsArchived due before mid (Err fault) = rw e at step in
-      rw s.0 (refl, rw s.1 at p)
+      line_packed (fault_line fault) s.0 (rw s.1 at p)
 
   pub room_kept : (fault : Fault) → r ≡ Err fault → length mid ≡ length before
   room_kept fault e =
@@ -133,8 +139,8 @@ module _ (due : Output) (before mid : List ℕ) {r : Result ℕ Fault} (step : I
       ap length s.1
 
 -- ---- the end of a text
-module _ (stage : Stage) (words aux : List ℕ) {after : List ℕ} (left : after ≡ (end_number stage words).words)
-    (taken : Result ℕ TextFault) (judged : taken ≡ taken_of (end_number stage words).stage) where
+module _ (stage : Stage) (words aux : List ℕ) {end : Stage} {after : List ℕ} (ended : IsFed (end_number stage words) end after)
+    (taken : Result ℕ TextFault) (judged : taken ≡ taken_of end) where
   pub ended_as : (is : Result ℕ TextFault) → taken ≡ is → pack_ended stage words aux ≡ pack_taken is after aux
   unfolding pack_ended
-  ended_as is e = rw (← left, ← judged, e)
+  ended_as is e = rw (← ended.stage, ← ended.words, ← judged, e)

@@ -2,9 +2,8 @@
 use Rattle.std.specs.Prelude.{ℕ, cond, List, [], eqb}
 use Rattle.words.specs.Answers.{Answer}
 use Rattle.words.specs.Refusals.{refusal_number}
-use Rattle.text.specs.Lines.{malformed_line, too_many_line, refused_line}
-use Rattle.numbers.specs.declared.Fault.TheVariants.{Malformed, TooMany}
-use Rattle.table_text.specs.TableText.{most_rows}
+use Rattle.text.specs.Lines.{refused_line}
+use Rattle.table_text.specs.Answers.{fault_line as text_fault_line}
 use Rattle.archive_text.specs.declared.Fault.{Fault}
 use Rattle.archive_text.specs.declared.Fault.TheVariants.{Taken, Refused}
 
@@ -27,6 +26,5 @@ output_of answer output = cond (eqb answer.number 0) output (refused (refused_li
 
 -- the line that says why there is nothing
 abbrev pub fault_line : Fault → List ℕ
-fault_line (Taken (Malformed line)) = malformed_line line
-fault_line (Taken (TooMany rows)) = too_many_line rows most_rows
+fault_line (Taken fault) = text_fault_line fault
 fault_line (Refused reason) = refused_line (refusal_number reason)

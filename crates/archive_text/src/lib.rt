@@ -28,6 +28,15 @@ const ROW_WORDS: usize = MainRow::WIDTH + AuxRow::WIDTH;
 // The bytes of an archive of the most rows.
 const MAX_BYTES: usize = COUNT_BYTES + 8 * ROW_WORDS * MAX_ROWS as usize;
 
+// The words of a table of the most rows.
+pub const TABLE_WORDS: usize = MainRow::WIDTH * MAX_ROWS as usize;
+
+// No line of a row is longer: thirteen numbers, and what follows each.
+pub const MAX_ROW_LINE: usize = 21 * ROW_WORDS;
+
+// No line that says why there is nothing is longer.
+pub const MAX_FAULT_LINE: usize = 256;
+
 // What the program is asked for.
 #[derive(Clone, Copy)]
 pub enum Task {
@@ -105,10 +114,7 @@ fn put_fault_line(text: &mut Text, fault: Fault)
     ensures { Adds text.old (fault_line fault) text.new }
 {
     match fault {
-        Fault::Taken(taken) => match taken {
-            numbers::Fault::Malformed(line) => text.put_malformed(line),
-            numbers::Fault::TooMany(rows) => text.put_too_many(rows, MAX_ROWS),
-        },
+        Fault::Taken(taken) => table_text::put_fault(text, taken),
         Fault::Refused(reason) => text.put_refused(reason),
     }
 }
@@ -130,6 +136,8 @@ fn pack_table(
 }
 
 // The archive for a text that has a table of so many rows.
+// No plainer with `words`, `aux` and `out` as one struct: lent, each `ensures` has to say besides that they are the same three; moved, it cannot be
+// passed on.
 fn pack_rows(words: &[u64], rows: usize, aux: &mut [u64], out: &mut [u8]) -> Result<usize, Fault>
     requires { (max_words ≤ length words.now) × (3 * most_rows ≤ length aux.old) × (max_archive ≤ length out.old) × (rows ≤ most_rows) }
     ensures { IsArchived (pack_taken (Ok rows) words.now aux.old) out.old out.new result }
@@ -149,7 +157,8 @@ fn pack_ended(
     requires { (max_words ≤ length words.old) × (3 * most_rows ≤ length aux.old) × (max_archive ≤ length out.old) × Within stage }
     ensures { IsArchived (pack_ended stage words.old aux.old) out.old out.new result }
 {
-    let rows = table_text::judge_end(stage, words)?;
+    let ended = numbers::end_number(stage, words);
+    let rows = table_text::judge_end(ended)?;
     pack_rows(words, rows, aux, out)
 }
 
@@ -164,6 +173,7 @@ pub fn pack(
     requires { (max_words ≤ length words.old) × (3 * most_rows ≤ length aux.old) × (max_archive ≤ length out.old) × Within stage }
     ensures { IsPacked (pack_ended stage words.old aux.old) out.old out.new result }
 {
+    // `map_err` was tried, and its proof did not close: of what a closure changes, `out` here, its caller knows nothing after the call.
     match pack_ended(stage, words, aux, out) {
         Ok(length) => Ok(length),
         Err(fault) => Err(put_fault(fault, out)),
@@ -216,6 +226,7 @@ pub fn unpack(
     requires { max_answer ≤ length out.old }
     ensures { IsUnpacked (unpack_all bytes.now table.old aux.old) table.new aux.new out.old out.new result }
 {
+    // No `map_err` here either: as in `pack`.
     match unpack_all(bytes, table, aux) {
         Ok(rows) => Ok(rows),
         Err(fault) => Err(put_fault(fault, out)),
@@ -227,6 +238,7 @@ fn put_row(text: &mut Text, table: &[u64], aux: &[u64], row: usize)
     requires { (10 * row + 10 ≤ length table.now) × (3 * row + 3 ≤ length aux.now) × HasRoom text.old max_row_line }
     ensures { Adds text.old (row_line (printed_row table.now aux.now row)) text.new }
 {
+    // By number, not by `chunks_exact` of the two arrays, zipped: those would have to be passed over up to the first row that is put.
     let k = MainRow::WIDTH * row;
     let j = AuxRow::WIDTH * row;
     let mut words = [0u64; ROW_WORDS];

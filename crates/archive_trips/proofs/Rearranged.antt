@@ -20,7 +20,8 @@ use Rattle.table.specs.Columns.{main_width, aux_width, row_count, all_reduced}
 use Rattle.table.proofs.Rows.{reduced_word, reduced_join}
 use Rattle.archive.specs.Archives.{word_width, archive_length, column, columns, archive_words, archive_bytes}
 use Rattle.archive.specs.Archives.{archived_word, archived_rows, archived_words, rows_from, archived_table, archived_aux}
-use Rattle.archive.proofs.Blocks.{in_blocks, flat_map_lem, map_moved, run_append, blocks_join, map_places}
+use Rattle.std.proofs.lemmas.List.Folds.{flat_map-map}
+use Rattle.archive.proofs.Blocks.{in_blocks, map_moved, run_append, blocks_join, map_places}
 use Rattle.archive.proofs.Reasons.{Shaped}
 
 -- ---- words as bytes
@@ -224,11 +225,11 @@ module _ (s : List ℕ) where
       first = run_append (archived_word s) 0 1 (m * main_width + m * aux_width)
 
   pub own_bytes : ((j : ℕ) → get_or s j 0 < 256) → length s ≡ archive_length m → archive_bytes (archived_table s) (archived_aux s) ≡ s
-  unfolding archive_bytes archived_word
+  unfolding archive_bytes archived_word flat_map
   own_bytes b long =
       let k = 1 + (m * main_width + m * aux_width) in
       ap (flat_map (le word_width)) words_again
-      ∙ flat_map_lem (le word_width) (archived_word s) (places k)
+      ∙ flat_map-map (le word_width) (archived_word s) (places k)
       ∙ flat_parts s 0 word_width (λ j. le word_width (archived_word s j)) 0 k
       (λ j p q. le_le_at s b word_width (word_width * j) (omega arith) ∙ ap (λ (a : ℕ). take word_width (drop a s)) (sym (zero-add (word_width * j))))
       ∙ take_all (word_width * k) s (omega arith)

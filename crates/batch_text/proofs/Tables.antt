@@ -1,7 +1,7 @@
 -- The lines of the table: how long they are, and which of them is due. A setting's line is that of its totals or of its refusal; the table is put line by
 -- line. Assumes nothing.
 use Prim.Native.Nat.{ℕ, ◌+◌, ◌*◌, ◌-◌, ◌/◌, ◌%◌, ◌≤◌}
-use mathlib.Core.Path.{◌≡◌, sym, ◌∙◌}
+use mathlib.Core.Path.{◌≡◌, refl, sym, ◌∙◌}
 use mathlib.Core.Bool.{Bool, true, false, cond}
 use mathlib.Core.List.{List, [], ◌∷◌}
 use Rattle.std.specs.List.{flat_map}
@@ -12,6 +12,8 @@ use lib.ListN.{length, get_or, length-append, length-replicate}
 use Rattle.words.specs.Answers.{Answer, done, declined}
 use Rattle.words.specs.Refusals.{refusal_number}
 use Rattle.words.specs.declared.Refusal.{Refusal}
+use Rattle.words.specs.declared.Refusal.TheVariants.{Shape, Stranger, Wide, BareLog, CountFull, ListFull}
+use Rattle.words.specs.declared.Refusal.TheVariants.{Short, Unreduced, Flat, Torn, Repeat, Tally, ZeroDivisor, CascadeFull, OpenHold, NoHold, JobAbove}
 use Rattle.words.proofs.Answers.{number_positive}
 use Rattle.batches.specs.Batches.{trial_all}
 use Rattle.text.specs.Lines.{ascii, decimal, spaces, column}
@@ -85,6 +87,26 @@ reason_setting number e = rw (eq-eqb number 1 e)
 pub reason_job : (number : ℕ) → (number ≡ 1 → ⊥) → ascii ": a job has more rows than the setting\n" ≡ reason_text number
 unfolding reason_text
 reason_job number n = rw (ne_eqb number 1 n)
+
+-- no other reason has the setting's number
+pub other_number : (reason : Refusal) → (reason ≡ Shape → ⊥) → refusal_number reason ≡ 1 → ⊥
+other_number Shape n e = n refl
+other_number Stranger n e = omega (arith, e)
+other_number Wide n e = omega (arith, e)
+other_number BareLog n e = omega (arith, e)
+other_number CountFull n e = omega (arith, e)
+other_number ListFull n e = omega (arith, e)
+other_number Short n e = omega (arith, e)
+other_number Unreduced n e = omega (arith, e)
+other_number Flat n e = omega (arith, e)
+other_number Torn n e = omega (arith, e)
+other_number Repeat n e = omega (arith, e)
+other_number Tally n e = omega (arith, e)
+other_number ZeroDivisor n e = omega (arith, e)
+other_number CascadeFull n e = omega (arith, e)
+other_number OpenHold n e = omega (arith, e)
+other_number NoHold n e = omega (arith, e)
+other_number JobAbove n e = omega (arith, e)
 
 module _ {s t : Text} (jobs : List ℕ) (setting : ℕ) where
   pub totals_due : {count rows pad : ℕ} → done (count ∷ rows ∷ pad ∷ []) ≡ trial_all jobs setting

@@ -4,19 +4,24 @@
 ghost use Rattle.std.specs.Prelude.{◌≤◌, ◌≡◌, length, take, drop, Ok};
 ghost use Rattle.text.specs.Put.{Put, HasRoom, Adds};
 ghost use Rattle.batches.specs.Batches.{trial_all};
-ghost use Rattle.batch_text.specs.Sheet.{most_settings, most_jobs, max_words, Fits, IsFed, Within, start_stage, takes, end_number};
+ghost use Rattle.words.specs.Refusals.{refusal_number};
+ghost use Rattle.batch_text.specs.Sheet.{most_settings, most_jobs, max_words, Fits, Within, start_stage, takes};
 ghost use Rattle.batch_text.specs.Table.{share_of, share_text, totals_line, refusal_line, setting_line, head_text, table_text, sheet_text, taken_text};
 ghost use Rattle.batch_text.specs.Table.{too_many_text, fault_text, answer_text, max_line, max_answer};
 
 use batches::Totals;
-use numbers::{Fault, Reader, Sheet};
+use numbers::{Answered, Fault, Reader, Sheet};
 use text::Text;
+use words::Refusal;
 
 // More settings are not taken.
 pub const MAX_SETTINGS: usize = 16;
 
 // More jobs are not taken.
 pub const MAX_JOBS: usize = 65536;
+
+// No answer is longer.
+pub const MAX_ANSWER: usize = 8192;
 
 // The width of a column of the table.
 const WIDTH: usize = 11;
@@ -65,25 +70,23 @@ impl Sheet for BatchSheet {
 pub fn start() -> Reader<BatchSheet>
     ensures { Ok result ≡ start_stage }
 {
-    Reader {
-        place: numbers::start(),
-        sheet: BatchSheet {
-            settings: 0,
-            jobs: 0,
-        },
-    }
+    Reader::new(BatchSheet {
+        settings: 0,
+        jobs: 0,
+    })
 }
 
 // ---- the table
 // How many thousandths of all padded rows are padding.
-fn share(rows: u64, padding: u64) -> u64
-    requires { (rows ≤ 137438953472) × (padding ≤ 137438953472) }
-    ensures { result ≡ share_of rows padding }
+fn share(totals: Totals) -> u64
+    requires { (totals.rows ≤ 137438953472) × (totals.padding ≤ 137438953472) }
+    ensures { result ≡ share_of totals.rows totals.padding }
 {
-    if rows + padding == 0 {
+    let padded = totals.rows + totals.padding;
+    if padded == 0 {
         return 0;
     }
-    1000 * padding / (rows + padding)
+    1000 * totals.padding / padded
 }
 
 // Puts thousandths as a percentage, and ends the line.
@@ -106,21 +109,21 @@ fn put_totals(text: &mut Text, setting: u64, totals: Totals)
     text.put_column(WIDTH, totals.count);
     text.put_column(WIDTH, totals.rows);
     text.put_column(WIDTH, totals.padding);
-    put_share(text, share(totals.rows, totals.padding));
+    put_share(text, share(totals));
 }
 
 // Puts the line of a setting that is refused, with the reason in words.
-fn put_refusal(text: &mut Text, setting: u64, number: u64)
+fn put_refusal(text: &mut Text, setting: u64, reason: Refusal)
     requires { HasRoom text.old max_line }
-    ensures { Adds text.old (refusal_line setting number) text.new }
+    ensures { Adds text.old (refusal_line setting (refusal_number reason)) text.new }
 {
     text.put_column(WIDTH, setting);
     text.put_str("  refused ");
-    text.put_column(1, number);
-    if number == 1 {
-        return text.put_str(": a setting is a number of rows from 1 to 131072\n");
+    text.put_column(1, u64::from(reason));
+    match reason {
+        Refusal::Shape => text.put_str(": a setting is a number of rows from 1 to 131072\n"),
+        _ => text.put_str(": a job has more rows than the setting\n"),
     }
-    text.put_str(": a job has more rows than the setting\n");
 }
 
 // Tries a setting, and puts its line.
@@ -130,7 +133,7 @@ fn put_setting(text: &mut Text, jobs: &[u64], setting: u64)
 {
     match batches::try_setting(jobs, setting) {
         Ok(totals) => put_totals(text, setting, totals),
-        Err(reason) => put_refusal(text, setting, u64::from(reason)),
+        Err(reason) => put_refusal(text, setting, reason),
     }
 }
 
@@ -156,18 +159,19 @@ pub fn put_table(text: &mut Text, settings: &[u64], jobs: &[u64])
 }
 
 // The table, where there is a setting to try.
-fn put_sheet(text: &mut Text, words: &[u64], settings: usize, jobs: usize)
-    requires { (max_words ≤ length words.now) × ((settings ≤ most_settings) × ((jobs ≤ most_jobs) × HasRoom text.old max_answer)) }
-    ensures { Adds text.old (sheet_text (take settings words.now) (take jobs (drop most_settings words.now))) text.new }
+fn put_sheet(text: &mut Text, words: &[u64], sheet: BatchSheet)
+    requires { (max_words ≤ length words.now) × (Fits sheet × HasRoom text.old max_answer) }
+    ensures { Adds text.old (sheet_text (take sheet.settings words.now) (take sheet.jobs (drop most_settings words.now))) text.new }
 {
-    if settings == 0 {
+    if sheet.settings == 0 {
         return text.put_str("no setting in the first line\n");
     }
-    let to = MAX_SETTINGS + jobs;
-    put_table(text, &words[..settings], &words[MAX_SETTINGS..to])
+    let to = MAX_SETTINGS + sheet.jobs;
+    put_table(text, &words[..sheet.settings], &words[MAX_SETTINGS..to])
 }
 
 // The line of a text with more numbers than are taken.
+// The most tells which they are, and the text is defined by it: for an enum in its place `Fault` would need a parameter, and each `Sheet` a type more.
 fn put_too_many(text: &mut Text, most: u64)
     requires { HasRoom text.old max_answer }
     ensures { Adds text.old (too_many_text most) text.new }
@@ -190,38 +194,34 @@ fn put_fault(text: &mut Text, fault: Fault)
 }
 
 // What a text leads to that ended so.
+// That there are words for all numbers is said here, in `put_sheet` and in `put_answer`: a struct that keeps it would be longer than two of these clauses.
 fn put_ended(text: &mut Text, ended: Result<Reader<BatchSheet>, Fault>, words: &[u64])
     requires { (max_words ≤ length words.now) × (HasRoom text.old max_answer × Within ended) }
     ensures { Adds text.old (taken_text ended words.now) text.new }
 {
     match ended {
         Err(fault) => put_fault(text, fault),
-        Ok(reader) => put_sheet(text, words, reader.sheet.settings, reader.sheet.jobs),
+        Ok(reader) => put_sheet(text, words, reader.sheet),
     }
 }
 
-// The end of a text, which ends a number too.
-fn end_text(
-    stage: Result<Reader<BatchSheet>, Fault>,
-    words: &mut [u64],
-) -> Result<Reader<BatchSheet>, Fault>
-    requires { (max_words ≤ length words.old) × Within stage }
-    ensures { IsFed (end_number stage words.old) result words.new }
-{
-    numbers::end_number(stage?, words)
-}
+impl Answered for BatchSheet {
+    ghost longest = { max_answer };
 
-// The answer for a text that ended here, at the front of `out`; answers its length.
-pub fn put_answer(
-    stage: Result<Reader<BatchSheet>, Fault>,
-    words: &mut [u64],
-    out: &mut [u8],
-) -> usize
-    requires { (max_words ≤ length words.old) × ((max_answer ≤ length out.old) × Within stage) }
-    ensures { Put out.old 0 (answer_text stage words.old) out.new result }
-{
-    let ended = end_text(stage, words);
-    let mut text = Text::new(out);
-    put_ended(&mut text, ended, words);
-    text.len()
+    ghost answer = { answer_text };
+
+    // The clauses stand here again: the check can't give this method those of its trait.
+    fn put_answer(
+        stage: Result<Reader<BatchSheet>, Fault>,
+        words: &mut [u64],
+        out: &mut [u8],
+    ) -> usize
+        requires { (max_words ≤ length words.old) × (max_answer ≤ length out.old) × Within stage }
+        ensures { Put out.old 0 (answer_text stage words.old) out.new result }
+    {
+        let ended = numbers::end_number(stage, words);
+        let mut text = Text::new(out);
+        put_ended(&mut text, ended, words);
+        text.len()
+    }
 }

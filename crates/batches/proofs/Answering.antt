@@ -2,44 +2,32 @@
 -- contracts cite (batches_law): it holds of every list of jobs that is accepted. Assumes nothing.
 use Prim.Native.Nat.{ℕ, ◌*◌, ◌/◌, ◌%◌, ◌≤◌, ◌<◌}
 use mathlib.Core.Path.{◌≡◌, refl, sym, ap, ◌∙◌}
-use mathlib.Core.Bool.{not, ◌||◌}
+use mathlib.Core.Bool.{not}
 use mathlib.Core.List.{List, [], ◌∷◌, flat_map}
 use native.Mathlib.Omega.{arith}
-use borrow.Author.Tests.{eq-eqb, ne_eqb, lt-ltb, le-ltb, ltb-false}
-use lib.Dec.{eqb, ltb}
+use borrow.Author.Tests.{eq-eqb, ne_eqb, lt-ltb, le-ltb}
+use lib.Dec.{eqb}
 use lib.ListN.{length, get_or, take, length-append}
 use lib.Seq.{sets}
-use Rattle.std.proofs.lemmas.Bool.{or_parts}
-use Rattle.words.specs.Limits.{max_rows, max_jobs}
 use Rattle.words.specs.Answers.{done, declined}
 use Rattle.words.specs.Outcomes.{Leaves, answered}
 use Rattle.words.specs.declared.Refusal.{Refusal}
-use Rattle.words.specs.declared.Refusal.TheVariants.{Shape, JobAbove, Short}
+use Rattle.words.specs.declared.Refusal.TheVariants.{Shape, Short}
 use Rattle.words.specs.Refusals.{Judgement, Fine, Declined, decline_if}
 use Rattle.words.proofs.Answers.{declined_not_done}
-use Rattle.words.proofs.Judgements.{decline_fine, or_both}
+use Rattle.words.proofs.Judgements.{or_both}
 use Rattle.words.proofs.Outcomes.{done_fine, leaves_done, leaves_declined}
 use Rattle.words.proofs.Sets.{take_sets_front}
 use Rattle.batches.specs.declared.Batch.{Batch}
-use Rattle.batches.specs.Batches.{batches_of, all_rows, padding, some_above, setting_reason, batch_reason, batch_words, batch_all, trial_all}
-use Rattle.batches.specs.Left.{Gatherable}
+use Rattle.batches.specs.Batches.{batches_of, all_rows, padding, setting_reason, batch_reason, batch_words, batch_all, trial_all}
 use Rattle.batches.specs.Splitting.{Splits, Batching}
 use Rattle.batches.proofs.Splitting.{splits}
-use Rattle.batches.proofs.Walking.{all_small}
+use Rattle.batches.proofs.Walking.{fine_tells, all_small}
 
 module _ (jobs : List ℕ) (setting : ℕ) where
-  -- what it tells that nothing is said against the setting and the jobs
-  pub fine_tells : setting_reason jobs setting ≡ Fine → Gatherable setting jobs
-  unfolding setting_reason
-  fine_tells e =
-      let both = or_both (decline_if (eqb setting 0 || (ltb max_rows setting || ltb max_jobs (length jobs))) Shape) (decline_if (some_above setting jobs) JobAbove) e in
-      let first = or_parts (eqb setting 0) (ltb max_rows setting || ltb max_jobs (length jobs)) (decline_fine _ Shape both.0) in
-      let second = or_parts (ltb max_rows setting) (ltb max_jobs (length jobs)) first.1 in
-      record {
-        small = ltb-false max_rows setting second.0;
-        few = ltb-false max_jobs (length jobs) second.1;
-        none_above = decline_fine (some_above setting jobs) JobAbove both.1;
-      }
+  pub trial_declined : {reason : Refusal} → setting_reason jobs setting ≡ Declined reason → declined reason ≡ trial_all jobs setting
+  unfolding trial_all
+  trial_declined e = rw e
 
   -- what it tells that the totals are answered
   pub record Tried (count pad : ℕ) : Type 0 where
@@ -62,7 +50,7 @@ module _ (jobs : List ℕ) (setting : ℕ) where
   unfolding trial_all
   trial_bounds {count} {rows} {pad} e =
       let told = done_fine (setting_reason jobs setting) _ tt tt (sym e) in
-      let small = all_small (fine_tells told.0) in
+      let small = all_small _ _ told.0 in
       let r : rows ≡ all_rows (batches_of setting jobs) = ap (λ (l : List ℕ). get_or l 1 0) (sym told.1) in
       let p : pad ≡ padding (batches_of setting jobs) = ap (λ (l : List ℕ). get_or l 2 0) (sym told.1) in (
         omega (arith, small.rows),

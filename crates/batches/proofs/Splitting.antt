@@ -9,7 +9,7 @@ use mathlib.Core.List.{List, [], ◌∷◌, ◌++◌}
 use native.Mathlib.Omega.{arith}
 use borrow.Author.Tests.{ltb-true, ltb-false}
 use lib.Dec.{ltb}
-use lib.ListN.{length, get_or, take, drop, length-append, length-drop}
+use lib.ListN.{length, get_or, take, drop, length-append, length-drop, take-append-drop}
 use lib.Seq.{take_at, drop_at, get_or_at, take-add, drop-cons}
 use Rattle.words.specs.Limits.{max_rows}
 use Rattle.list_record.proofs.PaddedHeight.{padded_at_least}
@@ -116,18 +116,13 @@ takes setting (height ∷ heights) n =
 
 -- ---- totals, from the order alone
 
-take_drop : (n : ℕ) (l : List ℕ) → take n l ++ drop n l ≡ l
-take_drop zero l = refl
-take_drop (suc n) [] = refl
-take_drop (suc n) (x ∷ l) = ap (λ (r : List ℕ). x ∷ r) (take_drop n l)
-
 takes_rows : {setting : ℕ} {jobs : List ℕ} {bs : List Batch} → Takes setting jobs bs → all_rows bs ≡ total jobs
 unfolding over_batches total
 takes_rows none = refl
 takes_rows (next {b} jobs p l r f w rest) =
     let more = takes_rows rest in
     let whole = total_append (take b.jobs jobs) (drop b.jobs jobs) in
-    let same = ap total (take_drop b.jobs jobs) in
+    let same = ap total (take-append-drop b.jobs jobs) in
     omega arith
 
 -- what is at most a table's rows for each batch is, over all, at most so much for each job

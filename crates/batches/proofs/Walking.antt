@@ -2,22 +2,29 @@
 -- is none left. Assumes nothing.
 use Prim.Native.Nat.{ℕ, zero, suc, ◌+◌, ◌*◌, ◌^◌, ◌-◌, ◌≤◌, ◌<◌}
 use mathlib.Core.Path.{◌≡◌, refl, sym, ap, ◌∙◌}
-use mathlib.Core.Bool.{false}
-use mathlib.Core.List.{List, [], ◌∷◌, flat_map}
+use mathlib.Core.Bool.{false, ◌||◌}
+use mathlib.Core.List.{List, [], ◌∷◌, ◌++◌, flat_map, append_assoc}
 use native.Mathlib.Numerals.{add-one}
 use native.Mathlib.Omega.{arith}
-use borrow.Author.Tests.{lt-ltb, le-ltb}
+use borrow.Author.Tests.{lt-ltb, le-ltb, ltb-false}
+use lib.Dec.{eqb, ltb}
 use lib.ListN.{length, get_or, take, drop, length-drop, drop_of_length-le}
-use lib.Seq.{sets, drop-cons}
+use lib.Seq.{sets, sets-eq, drop-cons}
+use borrow.Rule.Slice.PartMut.{put_mid}
+use Rattle.std.proofs.lemmas.Bool.{or_parts}
 use Rattle.std.proofs.lemmas.List.{take_rest}
+use Rattle.std.proofs.lemmas.List.Edits.{paste_all}
+use Rattle.std.proofs.lemmas.Slice.{put_mid-paste}
 use Rattle.words.specs.Answers.{done}
-use Rattle.words.specs.Limits.{max_rows}
+use Rattle.words.specs.Limits.{max_rows, max_jobs}
+use Rattle.words.specs.Refusals.{Fine, decline_if}
+use Rattle.words.specs.declared.Refusal.TheVariants.{Shape, JobAbove}
+use Rattle.words.proofs.Judgements.{decline_fine, or_both}
 use Rattle.words.proofs.Sets.{sets_then}
 use Rattle.list_record.specs.Plan.{padded_height}
 use Rattle.list_record.proofs.PaddedHeight.{padded_least}
 use Rattle.batches.specs.declared.Batch.{Batch}
-use Rattle.batches.specs.Batches.{batch, batches_from, batches_of, over_batches, all_rows, padding, some_above, batch_words}
-use Rattle.batches.specs.Left.{Gatherable}
+use Rattle.batches.specs.Batches.{batch, batches_from, batches_of, over_batches, all_rows, padding, some_above, setting_reason, batch_words, trial_all}
 use Rattle.batches.proofs.Splitting.{within, takes, takes_bound}
 
 -- no batch has more rows than a table, padded or not
@@ -43,6 +50,33 @@ module _ (setting : ℕ) (later : List ℕ) (current : Batch) (i : ℕ) where
     unfolding batches_from
     ends h = walked ∙ rw (← jobs_before, drop_of_length-le later h)
 
+-- ---- nothing speaks against the setting and the jobs
+
+-- one fact for each test
+pub record Gatherable (setting : ℕ) (jobs : List ℕ) : Type 0 where
+  pub not_zero : eqb setting 0 ≡ false
+  pub small : setting ≤ max_rows
+  pub few : length jobs ≤ max_jobs
+  pub none_above : some_above setting jobs ≡ false
+
+module _ (jobs : List ℕ) (setting : ℕ) where
+  pub fine_tells : setting_reason jobs setting ≡ Fine → Gatherable setting jobs
+  unfolding setting_reason
+  fine_tells e =
+      let both = or_both (decline_if (eqb setting 0 || (ltb max_rows setting || ltb max_jobs (length jobs))) Shape) (decline_if (some_above setting jobs) JobAbove) e in
+      let first = or_parts (eqb setting 0) (ltb max_rows setting || ltb max_jobs (length jobs)) (decline_fine _ Shape both.0) in
+      let second = or_parts (ltb max_rows setting) (ltb max_jobs (length jobs)) first.1 in
+      record {
+        not_zero = first.0;
+        small = ltb-false max_rows setting second.0;
+        few = ltb-false max_jobs (length jobs) second.1;
+        none_above = decline_fine (some_above setting jobs) JobAbove both.1;
+      }
+
+  pub nothing_against : Gatherable setting jobs → setting_reason jobs setting ≡ Fine
+  unfolding setting_reason
+  nothing_against g = rw (g.not_zero, le-ltb max_rows setting g.small, le-ltb max_jobs (length jobs) g.few, g.none_above)
+
 -- ---- the jobs that are left after a batch
 
 above_drop : (setting : ℕ) (jobs : List ℕ) (k : ℕ) → some_above setting jobs ≡ false → some_above setting (drop k jobs) ≡ false
@@ -54,14 +88,17 @@ module _ (setting : ℕ) {jobs later : List ℕ} {rows : ℕ} (split : jobs ≡ 
   pub first_fits : some_above setting jobs ≡ false → rows ≤ setting
   first_fits n = (within setting rows later (rw split at n)).first
 
-  pub left_gatherable : (k : ℕ) → Gatherable setting jobs → Gatherable setting (take (length later - k) (drop k later))
-  left_gatherable k g =
+  pub left_fine : (k : ℕ) → setting_reason jobs setting ≡ Fine → setting_reason (take (length later - k) (drop k later)) setting ≡ Fine
+  left_fine k e =
+      let g = fine_tells jobs setting e in
       rw (take_rest later k)
+      (nothing_against (drop k later) setting
       (record {
+        not_zero = g.not_zero;
         small = g.small;
         few = omega (arith, g.few, ap length split, length-drop k later);
         none_above = above_drop setting later k (within setting rows later (rw split at g.none_above)).rest;
-      })
+      }))
 
   pub one_less : {b : Batch} (k : ℕ) → batches_from setting (batch 1 rows) later ≡ b ∷ batches_of setting (drop k later)
       → length (batches_of setting (take (length later - k) (drop k later))) < length (batches_of setting jobs)
@@ -80,8 +117,9 @@ pub record Small (bs : List Batch) : Type 0 where
   pub rows : all_rows bs ≤ 137438953472
   pub lacking : padding bs ≤ 137438953472
 
-pub all_small : {setting : ℕ} {jobs : List ℕ} → Gatherable setting jobs → Small (batches_of setting jobs)
-all_small {setting} {jobs} g =
+pub all_small : (setting : ℕ) (jobs : List ℕ) → setting_reason jobs setting ≡ Fine → Small (batches_of setting jobs)
+all_small setting jobs e =
+    let g = fine_tells jobs setting e in
     let order = takes setting jobs g.none_above in
     record {
       few = omega (arith, length_over (batches_of setting jobs), g.few, takes_bound (λ x. 1) (λ x l. omega arith) order);
@@ -93,6 +131,12 @@ pub record Tallied (all left : List Batch) (count rows pad : ℕ) : Type 0 where
   pub counted : count + length left ≡ length all
   pub totalled : rows + all_rows left ≡ all_rows all
   pub lacking : pad + padding left ≡ padding all
+
+-- all batches' totals are those that a trial answers
+pub trial_fine : (setting : ℕ) (jobs : List ℕ) → setting_reason jobs setting ≡ Fine
+    → trial_all jobs setting ≡ done (length (batches_of setting jobs) ∷ all_rows (batches_of setting jobs) ∷ padding (batches_of setting jobs) ∷ [])
+unfolding trial_all
+trial_fine setting jobs e = rw e
 
 pub tally_starts : {all left : List Batch} → left ≡ all → Tallied all left 0 0 0
 tally_starts e = record {
@@ -132,6 +176,17 @@ write_starts {results = results} e z = record {
   rows = let l = ap all_rows e in omega arith;
   held = rw (z, e) refl;
 }
+
+-- the words of a batch, copied to their place
+pub words_put : (results words copied : List ℕ) (place : ℕ) (b : Batch) → words ≡ batch_words b → copied ≡ words → 3 * place + 3 ≤ length results
+    → put_mid (3 * place) (3 * place + 3 - 3 * place) results copied ≡ sets results (3 * place) (batch_words b)
+words_put results words copied place b e f h =
+    let n : 3 * place + 3 - 3 * place ≡ 3 = omega arith in
+    put_mid-paste (3 * place) _ results copied (batch_words b) _ (f ∙ e) refl n
+    ∙ paste_all results (3 * place) (batch_words b) _ n
+    ∙ ap (λ (k : ℕ). take (3 * place) results ++ (batch_words b ++ drop (3 * place + k) results)) n
+    ∙ sym (append_assoc (take (3 * place) results) (batch_words b) (drop (3 * place + 3) results))
+    ∙ sym (sets-eq (batch_words b) results (3 * place) h)
 
 module _ {all left : List Batch} {results₀ results : List ℕ} {place : ℕ} (w : Written all left results₀ results place) where
   pub write_step : {b : Batch} {after : List Batch} {written : List ℕ} {here next : ℕ} → left ≡ b ∷ after → here ≡ place → next ≡ place + 1

@@ -1,18 +1,16 @@
 // Jobs, each so many rows, are gathered in order into batches of at most a number of rows, the setting.
 #![tactic(auto)]
 
-ghost use Rattle.std.specs.Prelude.{◌≡◌, false, ◌+◌, ◌*◌, ◌-◌, ◌^◌, ◌≤◌, length, drop, Ok};
+ghost use Rattle.std.specs.Prelude.{◌≡◌, ◌+◌, ◌*◌, ◌-◌, ◌^◌, ◌≤◌, length, drop, Ok};
 ghost use Rattle.std.specs.Iterator.{YieldsFirst, item_count};
-ghost use mathlib.Core.List.{[], ◌∷◌, flat_map};
+ghost use mathlib.Core.List.{◌∷◌, flat_map};
 ghost use Rattle.std.proofs.lemmas.List.Edits.{sets};
-ghost use Rattle.words.specs.Limits.{max_rows, max_jobs};
-ghost use Rattle.words.specs.Answers.{done};
 ghost use Rattle.words.specs.Outcomes.{Leaves};
+ghost use Rattle.words.specs.Refusals.{Fine};
 ghost use Rattle.list_record.specs.Plan.{padded_height};
-ghost use Rattle.batches.specs.Batches.{batch, batches_from, batches_of, all_rows, padding as padding_of, some_above, batch_words};
-ghost use Rattle.batches.specs.Batches.{batch_all, batched_answer, trial_all, trial_answer};
+ghost use Rattle.batches.specs.Batches.{batch, batches_from, batches_of, some_above, batch_words};
+ghost use Rattle.batches.specs.Batches.{setting_reason, batch_all, batched_answer, trial_all, trial_answer};
 ghost use Rattle.batches.specs.Splitting.{Lawful};
-ghost use Rattle.batches.specs.Left.{batches_left, Gatherable};
 
 use words::{MAX_JOBS, MAX_ROWS, Refusal};
 
@@ -41,11 +39,13 @@ pub struct Batched {
     pub padding: u64,
 }
 
-// The batches of the jobs that are left, one after the other.
-#[derive(Drop)]
+// The batches of the jobs that are left, one after the other. Nothing speaks against these jobs and the setting, so that no sum of rows passes a word.
+// `batches` walks over a copy before it walks over the batches themselves.
+#[derive(Clone, Copy)]
 struct EachBatch<'a> {
     jobs: &'a [u64],
     setting: u64,
+    ghost fine: { setting_reason jobs.now setting ≡ Fine },
 }
 
 // The batch that a job of so many rows opens, with those of the later jobs that join it.
@@ -67,9 +67,9 @@ fn open_batch(rows: u64, later: &[u64], setting: u64) -> Batch
 }
 
 impl Iterator for EachBatch<'_> {
-    type Item = Batch;
+    ghost use Rattle.batches.specs.Left.{batches_left};
 
-    ghost can_next = { λ s. Gatherable s.setting s.jobs.now };
+    type Item = Batch;
 
     ghost next_gives = { YieldsFirst batches_left };
 
@@ -90,6 +90,24 @@ fn some_above(jobs: &[u64], setting: u64) -> bool
     jobs.iter().any(|height| setting < *height)
 }
 
+impl<'a> EachBatch<'a> {
+    ghost use Rattle.batches.specs.Left.{Judged};
+
+    // The batches of these jobs, or what speaks against the jobs or the setting.
+    #[tactic(auto, unfolding(crate::specs::Batches::setting_reason))]
+    fn new(jobs: &'a [u64], setting: u64) -> Result<Self, Refusal>
+        ensures { Judged jobs.now setting result }
+    {
+        if setting == 0 || (MAX_ROWS as u64) < setting || MAX_JOBS < jobs.len() {
+            return Err(Refusal::Shape);
+        }
+        if some_above(jobs, setting) {
+            return Err(Refusal::JobAbove);
+        }
+        Ok(EachBatch { jobs, setting })
+    }
+}
+
 // What a batch lacks to its padded height.
 fn batch_padding(rows: u64) -> u64
     requires { rows ≤ 2 ^ 62 }
@@ -99,16 +117,15 @@ fn batch_padding(rows: u64) -> u64
 }
 
 // The totals of the batches, none of which is written.
-fn tally(jobs: &[u64], setting: u64) -> Totals
-    requires { Gatherable setting jobs.now }
-    ensures { trial_answer (Ok result) ≡ done (length (batches_of setting jobs.now) ∷ all_rows (batches_of setting jobs.now) ∷ padding_of (batches_of setting jobs.now) ∷ []) }
+fn tally(each: EachBatch) -> Totals
+    ensures { trial_answer (Ok result) ≡ trial_all each.entry.jobs.now each.entry.setting }
 {
     let mut totals = Totals {
         count: 0,
         rows: 0,
         padding: 0,
     };
-    for batch in (EachBatch { jobs, setting }) {
+    for batch in each {
         totals.count += 1;
         totals.rows += batch.rows;
         totals.padding += batch_padding(batch.rows);
@@ -117,37 +134,32 @@ fn tally(jobs: &[u64], setting: u64) -> Totals
 }
 
 // What a setting gives for these jobs.
-#[tactic(auto, unfolding(crate::specs::Batches::trial_all, crate::specs::Batches::setting_reason))]
 pub fn try_setting(jobs: &[u64], setting: u64) -> Result<Totals, Refusal>
     ensures { trial_answer result ≡ trial_all jobs.now setting }
 {
-    if setting == 0 || (MAX_ROWS as u64) < setting || MAX_JOBS < jobs.len() {
-        return Err(Refusal::Shape);
-    }
-    if some_above(jobs, setting) {
-        return Err(Refusal::JobAbove);
-    }
-    Ok(tally(jobs, setting))
+    Ok(tally(EachBatch::new(jobs, setting)?))
 }
 
-// Writes a batch at its place among the results.
-fn put_batch(results: &mut [u64], place: usize, batch: Batch)
-    requires { (3 * place + 3 ≤ length results.old) × (batch.rows ≤ 2 ^ 62) }
-    ensures { results.new ≡ sets results.old (3 * place) (batch_words batch) }
+// The words of a batch among the results.
+fn batch_words(batch: Batch) -> [u64; BATCH_WIDTH]
+    requires { batch.rows ≤ 2 ^ 62 }
+    ensures { result ≡ batch_words batch }
 {
-    let at = BATCH_WIDTH * place;
-    results[at] = batch.jobs as u64;
-    results[at + 1] = batch.rows;
-    results[at + 2] = list_record::padded_height(batch.rows);
+    [
+        batch.jobs as u64,
+        batch.rows,
+        list_record::padded_height(batch.rows),
+    ]
 }
 
 // Writes all batches, which have places.
-fn write_batches(jobs: &[u64], setting: u64, results: &mut [u64])
-    requires { Gatherable setting jobs.now × (3 * length (batches_of setting jobs.now) ≤ length results.old) }
-    ensures { results.new ≡ sets results.old 0 (flat_map batch_words (batches_of setting jobs.now)) }
+fn write_batches(each: EachBatch, results: &mut [u64])
+    requires { 3 * length (batches_of each.setting each.jobs.now) ≤ length results.old }
+    ensures { results.new ≡ sets results.old 0 (flat_map batch_words (batches_of each.entry.setting each.entry.jobs.now)) }
 {
-    for (place, batch) in (EachBatch { jobs, setting }).enumerate() {
-        put_batch(results, place, batch);
+    for (place, batch) in each.enumerate() {
+        let at = BATCH_WIDTH * place;
+        results[at..at + BATCH_WIDTH].copy_from_slice(&batch_words(batch));
     }
 }
 
@@ -159,11 +171,12 @@ pub fn batches(jobs: &[u64], setting: u64, results: &mut [u64]) -> Result<Batche
     if results.len() % BATCH_WIDTH != 0 {
         return Err(Refusal::Shape);
     }
-    let totals = try_setting(jobs, setting)?;
+    let each = EachBatch::new(jobs, setting)?;
+    let totals = tally(each);
     if ((results.len() / BATCH_WIDTH) as u64) < totals.count {
         return Err(Refusal::Short);
     }
-    write_batches(jobs, setting, results);
+    write_batches(each, results);
     Ok(Batched {
         count: totals.count,
         padding: totals.padding,

@@ -2,6 +2,8 @@
 -- `answers`. `size` is how many words of `answers` the function states.
 use Rattle.std.specs.Prelude.{ℕ, ◌≤◌, ◌≡◌, Bool, cond, List, eqb, ltb, length, Result, Ok, Err}
 use Rattle.std.proofs.lemmas.List.Edits.{sets}
+use Rattle.std.specs.declared.cmp.Ordering.{Ordering}
+use Rattle.std.specs.declared.cmp.Ordering.TheVariants.{Less, Equal, Greater}
 use Rattle.words.specs.Answers.{Answer, done, declined}
 use Rattle.words.specs.Refusals.{refusal_number}
 use Rattle.words.specs.declared.Refusal.{Refusal}
@@ -12,6 +14,12 @@ use Rattle.list.specs.Holds.{HeldList, held_list}
 abbrev pub stated_answer : Result (List ℕ) Refusal → Answer
 stated_answer (Ok values) = done values
 stated_answer (Err reason) = declined reason
+
+-- "less, equal or greater": 0, 1 or 2
+abbrev pub order_number : Ordering → ℕ
+order_number Less = 0
+order_number Equal = 1
+order_number Greater = 2
 
 -- a list whose sizes are handed over as two numbers
 abbrev pub lent_list : ℕ → ℕ → (keys multiplicities holds : List ℕ) → HeldList

@@ -4,8 +4,9 @@
 
 ghost use Rattle.std.specs.Prelude.{◌≡◌, ◌≤◌, length};
 ghost use Rattle.words.specs.Outcomes.{completed_answer};
-ghost use Rattle.c_answers.specs.Exports.{Exported, stated_answer};
+ghost use Rattle.c_answers.specs.Exports.{Exported, stated_answer, order_number};
 
+use std::cmp::Ordering;
 use words::Refusal;
 
 // The number of the reason Shape, which a C function returns where `answers` has fewer words than the call states.
@@ -29,5 +30,16 @@ pub fn stated<const N: usize>(answers: &mut [u64], due: Result<[u64; N], Refusal
             0
         }
         Err(reason) => u64::from(reason),
+    }
+}
+
+// 0 for less, 1 for equal, 2 for greater.
+pub fn order_number(order: Ordering) -> u64
+    ensures { result ≡ order_number order }
+{
+    match order {
+        Ordering::Less => 0,
+        Ordering::Equal => 1,
+        Ordering::Greater => 2,
     }
 }

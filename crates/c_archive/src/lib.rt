@@ -1,4 +1,5 @@
 // The calls `archive` and `restore` as the C functions make them: the number of the documents is returned, and there are no further answers.
+// That refusals are numbers is the C interface.
 #![tactic(auto)]
 
 ghost use Rattle.std.specs.Prelude.{◌≡◌};

@@ -1,4 +1,5 @@
 // The call `batches` as the C function makes it: the number of the documents is returned, and further answers go into `answers`.
+// That refusals are numbers and answers words of a lent array is the C interface.
 #![tactic(auto)]
 
 ghost use Rattle.std.specs.Prelude.{◌≡◌};

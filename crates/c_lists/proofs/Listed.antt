@@ -1,7 +1,7 @@
--- The sizes of a list after each call, of which the C functions hand over one number or none: what they leave out is known to the caller. Assumes
--- nothing.
-use Prim.Native.Nat.{ℕ, zero, suc, ◌/◌}
-use mathlib.Core.Path.{◌≡◌, refl, ◌∙◌}
+-- The answers of a replay, the five arrays of a call that is lent the other recorder's too, and the sizes of a list after each call, of which the C
+-- functions hand over one number or none: what they leave out is known to the caller. Assumes nothing.
+use Prim.Native.Nat.{ℕ, zero, suc, ◌/◌, ◌<◌, ◌≤◌}
+use mathlib.Core.Path.{◌≡◌, refl, ap, ◌∙◌}
 use mathlib.Core.Bool.{Bool, true, false, cond}
 use mathlib.Core.List.{List, [], ◌∷◌}
 use native.Mathlib.Omega.{arith}
@@ -15,17 +15,45 @@ use Rattle.words.specs.declared.Refusal.TheVariants.{Shape}
 use Rattle.words.proofs.Outcomes.{outcome_done, outcome_keeps}
 use Rattle.isa.specs.declared.U32TableEntry.{U32TableEntry}
 use Rattle.isa.specs.Entries.{admitted}
+use Rattle.list.specs.declared.Sizes.{Sizes}
 use Rattle.list.specs.Lists.{capacity, used}
-use Rattle.list.specs.Holds.{HeldList}
+use Rattle.list.specs.Holds.{HeldList, held_list}
 use Rattle.list_record.specs.Recording.{place_in, known, record_reason, raised, appended, recorded_into, record_with, record_all, record_each}
-use Rattle.list_record.specs.Holding.{confirm_reason, confirm_all, drop_reason, drop_all}
+pub use Rattle.list_record.proofs.HoldingCases.{confirm_sizes, drop_sizes}
 use Rattle.list_replay.specs.declared.Step.{Step}
 use Rattle.list_replay.specs.declared.StepEntries.TheVariants.{One, Two}
 use Rattle.list_replay.specs.Steps.{step_width, step_at, Entries, step_entries}
 use Rattle.list_replay.specs.Replay.{record_together, step_as, step_all, stopped_at, replay_from, replay_reason, replayed_as, replay_all}
 use Rattle.list_stored.specs.Stored.{read_reason, read_all}
-use Rattle.list_shared.specs.Shared.{Counts, other_shape, beside_as, beside, record_shared, hold_shared, replay_shared, read_shared}
+use Rattle.list_shared.specs.Shared.{Counts, Shared, other_shape, beside_as, beside, record_shared, hold_shared, replay_shared, read_shared}
+use Rattle.list_shared.specs.Lent.{shared}
+use Rattle.c_answers.proofs.Exporting.{lent_short, lent_called, list_short, list_called}
+use Rattle.c_lists.specs.ListAnswers.{with_used, SharedLeft}
 
+-- a replay hands over its number, whatever it is, how many steps were done and the places used
+pub told_with : (due : Outcome Shared) (number n : ℕ) (after : Shared)
+    → record { number = number; values = n ∷ [] } ≡ due.answer → after ≡ due.left
+    → (number ≡ (with_used due).number) × (n ∷ used after.own.list ∷ [] ≡ (with_used due).values)
+told_with due number n after e f = (ap (λ (a : Answer). a.number) e, rw (← e, ← f))
+
+-- ---- the five arrays afterwards: `answers` is too short, or the call was made
+pub shared_short : (size : ℕ) (answers : List ℕ) (before due : Shared) → length answers < size
+    → SharedLeft size answers before due before.own.list.keys before.own.list.multiplicities before.own.holds before.other
+shared_short size answers before due h = record {
+  own = list_short size answers _ _ h;
+  other_multiplicities = lent_short size answers _ _ h;
+  other_holds = lent_short size answers _ _ h;
+}
+
+pub shared_called : (size : ℕ) (answers : List ℕ) (before due : Shared) (s : Sizes) (ks ms hs : List ℕ) (other : Counts)
+    → size ≤ length answers → shared (held_list s ks ms hs) other ≡ due → SharedLeft size answers before due ks ms hs other
+shared_called size answers before due s ks ms hs other h e = record {
+  own = list_called size answers _ _ s _ _ _ h (ap (λ (d : Shared). d.own) e);
+  other_multiplicities = lent_called size answers _ _ _ h (ap (λ (d : Shared). d.other.multiplicities) e);
+  other_holds = lent_called size answers _ _ _ h (ap (λ (d : Shared). d.other.holds) e);
+}
+
+-- ---- the sizes afterwards
 -- the capacity stays, a reading's number of entries is the number of places used, and a confirm or drop leaves both sizes
 abbrev pub places_of : HeldList → ℕ
 places_of h = capacity h.list
@@ -57,14 +85,6 @@ read_used h other s = go (other_shape h other) where
 pub read_capacity : (h : HeldList) (other : Counts) (s : List ℕ) → places_of (read_shared h other s).left.own ≡ places_of h
 unfolding read_shared read_all
 read_capacity h other s = beside_capacity _ _ h other (outcome_keeps places_of (read_reason h s) _ _ _ refl)
-
-pub confirm_sizes : (h : HeldList) (i : ℕ) → (confirm_all h i).left.list.sizes ≡ h.list.sizes
-unfolding confirm_all
-confirm_sizes h i = outcome_keeps (λ (l : HeldList). l.list.sizes) (confirm_reason h i) _ h _ refl
-
-pub drop_sizes : (h : HeldList) (i : ℕ) → (drop_all h i).left.list.sizes ≡ h.list.sizes
-unfolding drop_all
-drop_sizes h i = outcome_keeps (λ (l : HeldList). l.list.sizes) (drop_reason h i) _ h _ refl
 
 recorded_capacity : (count hold : ℕ) (h : HeldList) (e : U32TableEntry) → places_of (recorded_into count hold h e) ≡ places_of h
 recorded_capacity count hold h e = go (known h e) where

@@ -4,8 +4,6 @@ use Rattle.words.specs.Answers.{Answer, done, declined}
 use Rattle.words.specs.Outcomes.{Outcome}
 use Rattle.words.specs.declared.Refusal.{Refusal}
 use Rattle.isa.specs.declared.U32TableEntry.{U32TableEntry}
-use Rattle.std.specs.declared.cmp.Ordering.{Ordering}
-use Rattle.std.specs.declared.cmp.Ordering.TheVariants.{Less, Equal, Greater}
 use Rattle.isa.specs.Entries.{compare_entries}
 use Rattle.list.specs.Lists.{used}
 use Rattle.list.specs.Holds.{HeldList}
@@ -14,7 +12,7 @@ use Rattle.list_record.specs.Holding.{confirm_all, drop_all}
 use Rattle.list_stored.specs.Stored.{write_all}
 use Rattle.list_shared.specs.Shared.{Counts, Shared, record_shared, hold_shared, replay_shared, read_shared}
 use Rattle.list_shared.specs.Lent.{shared}
-use Rattle.c_answers.specs.Exports.{lent_due, ListLeft, Exported, Reported}
+use Rattle.c_answers.specs.Exports.{order_number, lent_due, ListLeft, Exported, Reported}
 
 -- "the answer is the key's position", or "how many were done"; then the places used afterwards, which "change with a recording"
 abbrev pub with_used : Outcome Shared → Answer
@@ -31,12 +29,6 @@ pub record SharedLeft (size : ℕ) (answers : List ℕ) (before due : Shared) (k
   pub own : ListLeft size answers before.own due.own ks ms hs
   pub other_multiplicities : other.multiplicities ≡ lent_due size answers before.other.multiplicities due.other.multiplicities
   pub other_holds : other.holds ≡ lent_due size answers before.other.holds due.other.holds
-
--- "less, equal or greater": 0, 1 or 2
-abbrev pub order_number : Ordering → ℕ
-order_number Less = 0
-order_number Equal = 1
-order_number Greater = 2
 
 abbrev pub compare_all : U32TableEntry → U32TableEntry → Answer
 compare_all x y = done (order_number (compare_entries x y) ∷ [])

@@ -1,5 +1,6 @@
 // The calls on lists and entries as the C functions make them: sizes are numbers, the number of document 01 is returned, and further answers go
-// into `answers`. That the arrays of a list come one by one is the C interface; the calls below take them as one thing.
+// into `answers`. That parameters are flat, orders and refusals numbers and answers words of a lent array is the C interface; the calls below take
+// the arrays of a list as one thing.
 #![tactic(auto)]
 
 ghost use Rattle.std.specs.Prelude.{◌≡◌, [], ◌∷◌};
@@ -12,16 +13,15 @@ ghost use Rattle.list_stored.specs.Stored.{write_all};
 ghost use Rattle.list_shared.specs.Shared.{read_shared};
 ghost use Rattle.list_shared.specs.Lent.{counts, counts_in, shared, SameCounts};
 ghost use Rattle.c_answers.specs.Exports.{lent_list, stated_answer, Exported};
-ghost use Rattle.c_lists.specs.ListAnswers.{position_and_used, order_number, compare_all};
+ghost use Rattle.c_lists.specs.ListAnswers.{position_and_used, compare_all};
 ghost use Rattle.c_lists.specs.ListAnswers.{RecordAnswers, RecordLeaves, HoldAnswers, HoldLeaves, ConfirmLeaves, DropLeaves};
 ghost use Rattle.c_lists.specs.ListAnswers.{ReplayAnswers, ReplayLeaves, PlanAnswers, ReadAnswers, ReadLeaves, WriteAnswers, WriteLeaves};
 
-use c_answers::SHAPE;
+use c_answers::{SHAPE, order_number};
 use isa::U32TableEntry;
 use list::{LentList, LentListMut, Sizes};
 use list_replay::Stopped;
 use list_shared::OtherCounts;
-use std::cmp::Ordering;
 use words::Refusal;
 
 // How many words of `answers` each call states.
@@ -202,17 +202,6 @@ pub fn replay(
     answers[0] = told.done as u64;
     answers[1] = list.sizes.used as u64;
     told.number
-}
-
-// 0 for less, 1 for equal, 2 for greater.
-fn order_number(order: Ordering) -> u64
-    ensures { result ≡ order_number order }
-{
-    match order {
-        Ordering::Less => 0,
-        Ordering::Equal => 1,
-        Ordering::Greater => 2,
-    }
 }
 
 // Answers: 0 where the first entry is less, 1 where the two are equal, 2 where it is greater.

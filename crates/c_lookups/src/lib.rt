@@ -1,5 +1,6 @@
 // The calls on the lookup tables as the C functions make them: sizes are numbers, the number of the refusal is returned, and further answers go
-// into `answers`. That the arrays of a table come one by one is the C interface; the calls below take them as one thing.
+// into `answers`. That parameters are flat, refusals numbers and answers words of a lent array is the C interface; the calls below take the arrays
+// of a table as one thing.
 #![tactic(auto)]
 
 ghost use Rattle.std.specs.Prelude.{◌≡◌, [], ◌∷◌};

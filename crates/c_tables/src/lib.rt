@@ -1,5 +1,6 @@
 // The calls on tables as the C functions make them: sizes are numbers, the number of document 01 is returned, and further answers go into
-// `answers`. That the arrays of a list come one by one is the C interface; the call below takes them as one thing.
+// `answers`. That parameters are flat, groups and refusals numbers and answers words of a lent array is the C interface; the call below takes the
+// arrays of a list as one thing.
 #![tactic(auto)]
 
 ghost use Rattle.std.specs.Prelude.{◌≡◌, ◌∷◌};

@@ -61,26 +61,6 @@ struct LeastBits {
     equal: BFieldElement,
 }
 
-#[tactic(auto, using(crate::proofs::Sums::double, crate::proofs::Sums::double_product), unfolding(air::specs::Constraints::equal_bits))]
-fn least_bits(
-    lhs: BFieldElement,
-    lhs_next: BFieldElement,
-    rhs: BFieldElement,
-    rhs_next: BFieldElement,
-) -> LeastBits
-    ensures { LeastBitsOf lhs.0 lhs_next.0 rhs.0 rhs_next.0 result }
-{
-    let lhs_lsb = lhs - (lhs_next + lhs_next);
-    let rhs_lsb = rhs - (rhs_next + rhs_next);
-    let product = lhs_lsb * rhs_lsb;
-    LeastBits {
-        lhs: lhs_lsb,
-        rhs: rhs_lsb,
-        product,
-        equal: BFieldElement::ONE - lhs_lsb - rhs_lsb + (product + product),
-    }
-}
-
 // Constraints 0 to 4, and what others share with them.
 #[derive(Clone, Copy)]
 struct GeneralTransition {
@@ -91,23 +71,6 @@ struct GeneralTransition {
     ci_stays: BFieldElement,
     bits_increase_for_lhs: BFieldElement,
     bits_increase_for_rhs: BFieldElement,
-}
-
-fn general_transition(upper: MainRow, lower: MainRow) -> GeneralTransition
-    ensures { GeneralTransitionOf (row_of upper) (row_of lower) result }
-{
-    let next_minus_1 = lower.copy_flag - BFieldElement::ONE;
-    let ci_is_pow = upper.ci - BFieldElement(Opcode::Pow as u64);
-    let increase = lower.bits - upper.bits - BFieldElement::ONE;
-    GeneralTransition {
-        next_minus_1,
-        ci_is_pow,
-        lhs_is_0_or_ci_is_pow: lower.copy_flag * upper.lhs * ci_is_pow,
-        rhs_is_0: lower.copy_flag * upper.rhs,
-        ci_stays: next_minus_1 * (lower.ci - upper.ci),
-        bits_increase_for_lhs: next_minus_1 * upper.lhs * ci_is_pow * increase,
-        bits_increase_for_rhs: next_minus_1 * upper.rhs * increase,
-    }
 }
 
 // Constraints 5 and 6.
@@ -138,20 +101,6 @@ struct DecidedLtTransition {
     result_is_1: BFieldElement,
 }
 
-fn decided_lt_transition(
-    lt: BFieldElement,
-    res: BFieldElement,
-    result_next: BFieldElement,
-) -> DecidedLtTransition
-    ensures { DecidedLtTransitionOf lt.0 res.0 result_next.0 result }
-{
-    let next_minus_2 = result_next - BFieldElement(2);
-    DecidedLtTransition {
-        result_is_0: lt * (result_next - BFieldElement::ONE) * next_minus_2 * res,
-        result_is_1: lt * result_next * next_minus_2 * (res - BFieldElement::ONE),
-    }
-}
-
 // Constraints 9 to 12: lt, not decided in the lower row.
 #[derive(Clone, Copy)]
 struct UndecidedLtTransition {
@@ -159,30 +108,6 @@ struct UndecidedLtTransition {
     bits_1_and_0: BFieldElement,
     equal_bits_with_copy_flag_0: BFieldElement,
     equal_bits_with_copy_flag_1: BFieldElement,
-}
-
-fn undecided_lt_transition(
-    lt: BFieldElement,
-    copy_flag: BFieldElement,
-    res: BFieldElement,
-    result_next: BFieldElement,
-    bits: LeastBits,
-) -> UndecidedLtTransition
-    ensures { UndecidedLtTransitionOf lt.0 copy_flag.0 res.0 result_next.0 bits result }
-{
-    let undecided = lt * result_next * (result_next - BFieldElement::ONE);
-    let equal = undecided * bits.equal;
-    UndecidedLtTransition {
-        bits_0_and_1: undecided
-            * (bits.lhs - BFieldElement::ONE)
-            * bits.rhs
-            * (res - BFieldElement::ONE),
-        bits_1_and_0: undecided * bits.lhs * (bits.rhs - BFieldElement::ONE) * res,
-        equal_bits_with_copy_flag_0: equal
-            * (copy_flag - BFieldElement::ONE)
-            * (res - BFieldElement(2)),
-        equal_bits_with_copy_flag_1: equal * copy_flag * res,
-    }
 }
 
 // Constraints 13 to 15: and, log_2_floor.
@@ -193,28 +118,6 @@ struct AndLog2FloorTransition {
     log_2_floor_is_copied: BFieldElement,
 }
 
-#[tactic(auto, using(crate::proofs::Sums::double), unfolding(table::specs::Layouts::row_of, air::specs::Constraints::one_minus_product_of))]
-fn and_log_2_floor_transition(
-    and: BFieldElement,
-    log_2_floor: BFieldElement,
-    product: BFieldElement,
-    upper: MainRow,
-    lower: MainRow,
-) -> AndLog2FloorTransition
-    ensures { AndLog2FloorTransitionOf and.0 log_2_floor.0 product.0 (row_of upper) (row_of lower) result }
-{
-    let doubled = lower.result + lower.result;
-    let one_minus_product = BFieldElement::ONE - lower.lhs * lower.lhs_inv;
-    AndLog2FloorTransition {
-        and_updates: and * (upper.result - doubled - product),
-        log_2_floor_is_set: log_2_floor
-            * one_minus_product
-            * upper.lhs
-            * (upper.result - upper.bits),
-        log_2_floor_is_copied: log_2_floor * lower.lhs * (lower.result - upper.result),
-    }
-}
-
 // Constraints 16 to 19: pow, pop_count.
 #[derive(Clone, Copy)]
 struct PowPopCountTransition {
@@ -222,25 +125,6 @@ struct PowPopCountTransition {
     pow_squares: BFieldElement,
     pow_squares_and_mults: BFieldElement,
     pop_count_increases: BFieldElement,
-}
-
-#[tactic(auto, unfolding(table::specs::Layouts::row_of))]
-fn pow_pop_count_transition(
-    pow: BFieldElement,
-    pop_count: BFieldElement,
-    bits: LeastBits,
-    upper: MainRow,
-    lower: MainRow,
-) -> PowPopCountTransition
-    ensures { PowPopCountTransitionOf pow.0 pop_count.0 bits (row_of upper) (row_of lower) result }
-{
-    let square = lower.result * lower.result;
-    PowPopCountTransition {
-        pow_lhs_unchanged: pow * (lower.lhs - upper.lhs),
-        pow_squares: pow * (bits.rhs - BFieldElement::ONE) * (upper.result - square),
-        pow_squares_and_mults: pow * bits.rhs * (upper.result - square * upper.lhs),
-        pop_count_increases: pop_count * (upper.result - lower.result - bits.lhs),
-    }
 }
 
 // Constraints 0 to 19: those of main columns alone.
@@ -254,42 +138,142 @@ struct BaseTransition {
     pow_pop_count: PowPopCountTransition,
 }
 
-fn base_transition(upper: MainRow, lower: MainRow) -> BaseTransition
-    ensures { BaseTransitionOf (row_of upper) (row_of lower) result }
-{
-    let general = general_transition(upper, lower);
-    let bits = least_bits(upper.lhs, lower.lhs, upper.rhs, lower.rhs);
-    let selected = Deselectors::of(lower.ci).times(general.next_minus_1);
-    let bit = bit_transition(general.next_minus_1, general.ci_is_pow, bits.lhs, bits.rhs);
-    let decided_lt = decided_lt_transition(selected.lt, upper.result, lower.result);
-    let undecided_lt = undecided_lt_transition(
-        selected.lt,
-        upper.copy_flag,
-        upper.result,
-        lower.result,
-        bits,
-    );
-    let and_log_2_floor = and_log_2_floor_transition(
-        selected.and,
-        selected.log_2_floor,
-        bits.product,
-        upper,
-        lower,
-    );
-    let pow_pop_count = pow_pop_count_transition(
-        selected.pow,
-        selected.pop_count,
-        bits,
-        upper,
-        lower,
-    );
-    BaseTransition {
-        general,
-        bit,
-        decided_lt,
-        undecided_lt,
-        and_log_2_floor,
-        pow_pop_count,
+// A row and the row below it.
+#[derive(Clone, Copy)]
+struct RowPair {
+    upper: MainRow,
+    lower: MainRow,
+}
+
+impl RowPair {
+    #[tactic(auto, using(crate::proofs::Sums::double, crate::proofs::Sums::double_product), unfolding(air::specs::Constraints::equal_bits))]
+    fn least_bits(self) -> LeastBits
+        ensures { LeastBitsOf self.upper.lhs.0 self.lower.lhs.0 self.upper.rhs.0 self.lower.rhs.0 result }
+    {
+        let lhs_lsb = self.upper.lhs - (self.lower.lhs + self.lower.lhs);
+        let rhs_lsb = self.upper.rhs - (self.lower.rhs + self.lower.rhs);
+        let product = lhs_lsb * rhs_lsb;
+        LeastBits {
+            lhs: lhs_lsb,
+            rhs: rhs_lsb,
+            product,
+            equal: BFieldElement::ONE - lhs_lsb - rhs_lsb + (product + product),
+        }
+    }
+
+    fn general_transition(self) -> GeneralTransition
+        ensures { GeneralTransitionOf (row_of self.upper) (row_of self.lower) result }
+    {
+        let next_minus_1 = self.lower.copy_flag - BFieldElement::ONE;
+        let ci_is_pow = self.upper.ci - BFieldElement(Opcode::Pow as u64);
+        let increase = self.lower.bits - self.upper.bits - BFieldElement::ONE;
+        GeneralTransition {
+            next_minus_1,
+            ci_is_pow,
+            lhs_is_0_or_ci_is_pow: self.lower.copy_flag * self.upper.lhs * ci_is_pow,
+            rhs_is_0: self.lower.copy_flag * self.upper.rhs,
+            ci_stays: next_minus_1 * (self.lower.ci - self.upper.ci),
+            bits_increase_for_lhs: next_minus_1 * self.upper.lhs * ci_is_pow * increase,
+            bits_increase_for_rhs: next_minus_1 * self.upper.rhs * increase,
+        }
+    }
+
+    fn decided_lt_transition(self, lt: BFieldElement) -> DecidedLtTransition
+        ensures { DecidedLtTransitionOf lt.0 self.upper.result.0 self.lower.result.0 result }
+    {
+        let res = self.upper.result;
+        let result_next = self.lower.result;
+        let next_minus_2 = result_next - BFieldElement(2);
+        DecidedLtTransition {
+            result_is_0: lt * (result_next - BFieldElement::ONE) * next_minus_2 * res,
+            result_is_1: lt * result_next * next_minus_2 * (res - BFieldElement::ONE),
+        }
+    }
+
+    fn undecided_lt_transition(self, lt: BFieldElement, bits: LeastBits) -> UndecidedLtTransition
+        ensures { UndecidedLtTransitionOf lt.0 self.upper.copy_flag.0 self.upper.result.0 self.lower.result.0 bits result }
+    {
+        let res = self.upper.result;
+        let result_next = self.lower.result;
+        let undecided = lt * result_next * (result_next - BFieldElement::ONE);
+        let equal = undecided * bits.equal;
+        UndecidedLtTransition {
+            bits_0_and_1: undecided
+                * (bits.lhs - BFieldElement::ONE)
+                * bits.rhs
+                * (res - BFieldElement::ONE),
+            bits_1_and_0: undecided * bits.lhs * (bits.rhs - BFieldElement::ONE) * res,
+            equal_bits_with_copy_flag_0: equal
+                * (self.upper.copy_flag - BFieldElement::ONE)
+                * (res - BFieldElement(2)),
+            equal_bits_with_copy_flag_1: equal * self.upper.copy_flag * res,
+        }
+    }
+
+    #[tactic(auto, using(crate::proofs::Sums::double), unfolding(table::specs::Layouts::row_of, air::specs::Constraints::one_minus_product_of))]
+    fn and_log_2_floor_transition(
+        self,
+        and: BFieldElement,
+        log_2_floor: BFieldElement,
+        product: BFieldElement,
+    ) -> AndLog2FloorTransition
+        ensures { AndLog2FloorTransitionOf and.0 log_2_floor.0 product.0 (row_of self.upper) (row_of self.lower) result }
+    {
+        let doubled = self.lower.result + self.lower.result;
+        let one_minus_product = BFieldElement::ONE - self.lower.lhs * self.lower.lhs_inv;
+        AndLog2FloorTransition {
+            and_updates: and * (self.upper.result - doubled - product),
+            log_2_floor_is_set: log_2_floor
+                * one_minus_product
+                * self.upper.lhs
+                * (self.upper.result - self.upper.bits),
+            log_2_floor_is_copied: log_2_floor
+                * self.lower.lhs
+                * (self.lower.result - self.upper.result),
+        }
+    }
+
+    #[tactic(auto, unfolding(table::specs::Layouts::row_of))]
+    fn pow_pop_count_transition(
+        self,
+        pow: BFieldElement,
+        pop_count: BFieldElement,
+        bits: LeastBits,
+    ) -> PowPopCountTransition
+        ensures { PowPopCountTransitionOf pow.0 pop_count.0 bits (row_of self.upper) (row_of self.lower) result }
+    {
+        let square = self.lower.result * self.lower.result;
+        PowPopCountTransition {
+            pow_lhs_unchanged: pow * (self.lower.lhs - self.upper.lhs),
+            pow_squares: pow * (bits.rhs - BFieldElement::ONE) * (self.upper.result - square),
+            pow_squares_and_mults: pow * bits.rhs * (self.upper.result - square * self.upper.lhs),
+            pop_count_increases: pop_count * (self.upper.result - self.lower.result - bits.lhs),
+        }
+    }
+
+    fn base_transition(self) -> BaseTransition
+        ensures { BaseTransitionOf (row_of self.upper) (row_of self.lower) result }
+    {
+        let general = self.general_transition();
+        let bits = self.least_bits();
+        let selected = Deselectors::of(self.lower.ci).times(general.next_minus_1);
+        let bit = bit_transition(general.next_minus_1, general.ci_is_pow, bits.lhs, bits.rhs);
+        let decided_lt = self.decided_lt_transition(selected.lt);
+        let undecided_lt = self.undecided_lt_transition(selected.lt, bits);
+        let and_log_2_floor = self.and_log_2_floor_transition(
+            selected.and,
+            selected.log_2_floor,
+            bits.product,
+        );
+        let pow_pop_count = self.pow_pop_count_transition(selected.pow, selected.pop_count, bits);
+        BaseTransition {
+            general,
+            bit,
+            decided_lt,
+            undecided_lt,
+            and_log_2_floor,
+            pow_pop_count,
+        }
     }
 }
 
@@ -360,7 +344,7 @@ pub fn transition_constraints(
 {
     let sum = aux.lookup_server_log_derivative;
     let sum_next = aux_next.lookup_server_log_derivative;
-    let denominator = challenges.denominator(lower.lhs, lower.rhs, lower.ci, lower.result);
+    let denominator = challenges.row_denominator(lower);
     let running_sum = running_sum_transition(
         lower.copy_flag,
         lower.lookup_multiplicity,
@@ -370,5 +354,9 @@ pub fn transition_constraints(
     );
     let stays = running_sum.stays;
     let accumulates = running_sum.accumulates;
-    transition_values(base_transition(upper, lower), stays, accumulates)
+    transition_values(
+        RowPair { upper, lower }.base_transition(),
+        stays,
+        accumulates,
+    )
 }

@@ -86,89 +86,99 @@ fn is_end(row: MainRow) -> bool
     fill_results::is_end(row.ci.0, row.lhs.0, row.rhs.0)
 }
 
-// Bits is one more, or the upper row ends its section.
-fn is_counted(upper: MainRow, lower: MainRow) -> bool
-    ensures { result ≡ true → (lower.bits.0 ≡ upper.bits.0 + 1) ⊎ IsEnd upper.ci.0 upper.lhs.0 upper.rhs.0 }
-{
-    0 < lower.bits.0 && lower.bits.0 - 1 == upper.bits.0 || is_end(upper)
+// A row and the row below it.
+#[derive(Clone, Copy)]
+struct RowPair {
+    upper: MainRow,
+    lower: MainRow,
 }
 
-fn is_lt_carried(upper: MainRow, lower: MainRow) -> bool
-    ensures { result ≡ true → LtCarried upper.copy_flag.0 upper.lhs.0 upper.rhs.0 lower.result.0 upper.result.0 }
-{
-    let lhs = upper.lhs.0 % 2;
-    let rhs = upper.rhs.0 % 2;
-    match lower.result.0 {
-        0 => upper.result.0 == 0,
-        1 => upper.result.0 == 1,
-        2 if lhs < rhs => upper.result.0 == 1,
-        2 if rhs < lhs => upper.result.0 == 0,
-        2 => is_lt_equal(upper),
-        _ => false,
+impl RowPair {
+    // Bits is one more, or the upper row ends its section.
+    fn is_counted(self) -> bool
+        ensures { result ≡ true → (self.lower.bits.0 ≡ self.upper.bits.0 + 1) ⊎ IsEnd self.upper.ci.0 self.upper.lhs.0 self.upper.rhs.0 }
+    {
+        0 < self.lower.bits.0 && self.lower.bits.0 - 1 == self.upper.bits.0 || is_end(self.upper)
     }
-}
 
-fn is_log_carried(upper: MainRow, lower: MainRow) -> bool
-    ensures { result ≡ true → LogCarried upper.bits.0 upper.lhs.0 lower.lhs.0 lower.lhs_inv.0 lower.result.0 upper.result.0 }
-{
-    if upper.lhs.0 == 0 {
-        true
-    } else if lower.lhs.0 == 0 {
-        upper.result.0 == upper.bits.0
-    } else {
-        (lower.lhs * lower.lhs_inv).0 == 1 && lower.result.0 == upper.result.0
+    fn is_lt_carried(self) -> bool
+        ensures { result ≡ true → LtCarried self.upper.copy_flag.0 self.upper.lhs.0 self.upper.rhs.0 self.lower.result.0 self.upper.result.0 }
+    {
+        let lhs = self.upper.lhs.0 % 2;
+        let rhs = self.upper.rhs.0 % 2;
+        match self.lower.result.0 {
+            0 => self.upper.result.0 == 0,
+            1 => self.upper.result.0 == 1,
+            2 if lhs < rhs => self.upper.result.0 == 1,
+            2 if rhs < lhs => self.upper.result.0 == 0,
+            2 => is_lt_equal(self.upper),
+            _ => false,
+        }
     }
-}
 
-fn is_pow_carried(upper: MainRow, lower: MainRow) -> bool
-    ensures { result ≡ true → PowCarried upper.lhs.0 upper.rhs.0 lower.result.0 upper.result.0 }
-{
-    let square = lower.result * lower.result;
-    if upper.rhs.0 % 2 == 0 {
-        upper.result.0 == square.0
-    } else {
-        upper.result.0 == (square * upper.lhs).0
+    fn is_log_carried(self) -> bool
+        ensures { result ≡ true → LogCarried self.upper.bits.0 self.upper.lhs.0 self.lower.lhs.0 self.lower.lhs_inv.0 self.lower.result.0 self.upper.result.0 }
+    {
+        if self.upper.lhs.0 == 0 {
+            true
+        } else if self.lower.lhs.0 == 0 {
+            self.upper.result.0 == self.upper.bits.0
+        } else {
+            (self.lower.lhs * self.lower.lhs_inv).0 == 1
+                && self.lower.result.0 == self.upper.result.0
+        }
     }
-}
 
-fn is_and_carried(upper: MainRow, lower: MainRow) -> bool
-    ensures { result ≡ true → AndCarried upper.lhs.0 upper.rhs.0 lower.result.0 upper.result.0 }
-{
-    upper.result.0 / 2 == lower.result.0
-        && upper.result.0 % 2 == upper.lhs.0 % 2 * (upper.rhs.0 % 2)
-}
-
-fn is_pop_count_carried(upper: MainRow, lower: MainRow) -> bool
-    ensures { result ≡ true → PopCountCarried upper.lhs.0 lower.result.0 upper.result.0 }
-{
-    upper.result.0 == (lower.result + BFieldElement(upper.lhs.0 % 2)).0
-}
-
-#[tactic(auto, unfolding(table::specs::Layouts::row_of))]
-fn is_carried(upper: MainRow, lower: MainRow) -> bool
-    ensures { result ≡ true → Carried (row_of upper) (row_of lower) }
-{
-    let is_halved = lower.lhs.0 == upper.lhs.0 / 2;
-    match Opcode::try_from(upper.ci.0) {
-        Ok(Opcode::Split) => is_halved,
-        Ok(Opcode::Lt) => is_halved && is_lt_carried(upper, lower),
-        Ok(Opcode::And) => is_halved && is_and_carried(upper, lower),
-        Ok(Opcode::Log2Floor) => is_halved && is_log_carried(upper, lower),
-        Ok(Opcode::Pow) => lower.lhs.0 == upper.lhs.0 && is_pow_carried(upper, lower),
-        Ok(Opcode::PopCount) => is_halved && is_pop_count_carried(upper, lower),
-        Err(_) => false,
+    fn is_pow_carried(self) -> bool
+        ensures { result ≡ true → PowCarried self.upper.lhs.0 self.upper.rhs.0 self.lower.result.0 self.upper.result.0 }
+    {
+        let square = self.lower.result * self.lower.result;
+        if self.upper.rhs.0 % 2 == 0 {
+            self.upper.result.0 == square.0
+        } else {
+            self.upper.result.0 == (square * self.upper.lhs).0
+        }
     }
-}
 
-#[tactic(auto, unfolding(table::specs::Layouts::row_of))]
-fn is_step(upper: MainRow, lower: MainRow) -> bool
-    ensures { result ≡ true → Step (row_of upper) (row_of lower) }
-{
-    lower.copy_flag.0 == 0
-        && lower.ci.0 == upper.ci.0
-        && is_counted(upper, lower)
-        && lower.rhs.0 == upper.rhs.0 / 2
-        && is_carried(upper, lower)
+    fn is_and_carried(self) -> bool
+        ensures { result ≡ true → AndCarried self.upper.lhs.0 self.upper.rhs.0 self.lower.result.0 self.upper.result.0 }
+    {
+        self.upper.result.0 / 2 == self.lower.result.0
+            && self.upper.result.0 % 2 == self.upper.lhs.0 % 2 * (self.upper.rhs.0 % 2)
+    }
+
+    fn is_pop_count_carried(self) -> bool
+        ensures { result ≡ true → PopCountCarried self.upper.lhs.0 self.lower.result.0 self.upper.result.0 }
+    {
+        self.upper.result.0 == (self.lower.result + BFieldElement(self.upper.lhs.0 % 2)).0
+    }
+
+    #[tactic(auto, unfolding(table::specs::Layouts::row_of))]
+    fn is_carried(self) -> bool
+        ensures { result ≡ true → Carried (row_of self.upper) (row_of self.lower) }
+    {
+        let is_halved = self.lower.lhs.0 == self.upper.lhs.0 / 2;
+        match Opcode::try_from(self.upper.ci.0) {
+            Ok(Opcode::Split) => is_halved,
+            Ok(Opcode::Lt) => is_halved && self.is_lt_carried(),
+            Ok(Opcode::And) => is_halved && self.is_and_carried(),
+            Ok(Opcode::Log2Floor) => is_halved && self.is_log_carried(),
+            Ok(Opcode::Pow) => self.lower.lhs.0 == self.upper.lhs.0 && self.is_pow_carried(),
+            Ok(Opcode::PopCount) => is_halved && self.is_pop_count_carried(),
+            Err(_) => false,
+        }
+    }
+
+    #[tactic(auto, unfolding(table::specs::Layouts::row_of))]
+    fn is_step(self) -> bool
+        ensures { result ≡ true → Step (row_of self.upper) (row_of self.lower) }
+    {
+        self.lower.copy_flag.0 == 0
+            && self.lower.ci.0 == self.upper.ci.0
+            && self.is_counted()
+            && self.lower.rhs.0 == self.upper.rhs.0 / 2
+            && self.is_carried()
+    }
 }
 
 fn same_words(a: XFieldElement, b: XFieldElement) -> bool
@@ -186,7 +196,7 @@ fn accumulates(
 ) -> bool
     ensures { result ≡ true → if_copy_flag_next_is_1_then_running_sum_log_derivative_accumulates_next_row (challenges_in challenges) (row_of lower) (ext_of sum) (ext_of sum_next) ≡ zero_x }
 {
-    let denominator = challenges.denominator(lower.lhs, lower.rhs, lower.ci, lower.result);
+    let denominator = challenges.row_denominator(lower);
     let value = check_rows::accumulated(
         lower.copy_flag,
         sum_next - sum,
@@ -211,6 +221,6 @@ pub fn is_plain_pair(
     if lower.copy_flag.0 == 1 {
         is_end(upper) && accumulates(challenges, lower, sum, sum_next)
     } else {
-        is_step(upper, lower) && same_words(sum, sum_next)
+        RowPair { upper, lower }.is_step() && same_words(sum, sum_next)
     }
 }

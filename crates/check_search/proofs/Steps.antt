@@ -11,7 +11,10 @@ use Rattle.words.specs.Answers.{Answer}
 use Rattle.xfield.specs.Extension.{Ext, zero_x, is_zero_x}
 use Rattle.xfield.specs.XFieldElements.{ext_of}
 use Rattle.xfield.specs.declared.XFieldElement.{XFieldElement}
-use Rattle.air.specs.Check.{nonzero, first_in, first_in_rows}
+use Rattle.table.specs.Columns.{row_at, aux_at}
+use Rattle.table.specs.Challenges.{Challenges, challenges_of}
+use Rattle.air.specs.Constraints.{initial_constraints}
+use Rattle.air.specs.Check.{nonzero, first_in, first_in_rows, initial_at}
 use Rattle.air.proofs.Scan.{value_zero, value_nonzero, values_done, row_next}
 use Rattle.std.specs.Prelude.{Option, Some, None, is_some}
 use Rattle.check_search.specs.declared.Nonzero.{Nonzero}
@@ -31,6 +34,14 @@ one_row constraints group row next = refl
 pub row_alone : (constraints : ℕ → List Ext) (group row : ℕ) (next : Answer) {vs : List Ext} {a : Answer}
     → a ≡ first_in group row 0 vs next → vs ≡ constraints row → a ≡ first_in_rows constraints group row 1 next
 row_alone constraints group row next e q = e ∙ ap (λ (l : List Ext). first_in group row 0 l next) q ∙ sym (one_row constraints group row next)
+
+-- the search of row 0, of challenges and a sum that were read from words
+pub initial_searched : (table aux challenges : List ℕ) {w : Challenges} {sum : Ext} (o : Option Nonzero)
+    → ((next : Answer) → followed_by o next ≡ first_in 0 0 0 (initial_constraints w (row_at table 0) sum) next)
+    → w ≡ challenges_of challenges → sum ≡ aux_at aux 0
+    → (next : Answer) → followed_by o next ≡ first_in_rows (initial_at table aux challenges) 0 0 1 next
+initial_searched table aux challenges o s w sum next =
+    row_alone _ 0 0 next (s next) (λ i. initial_constraints (w i) (row_at table 0) (sum i))
 
 -- ---- the values of one row
 module _ (group row : ℕ) (values : List XFieldElement) (i : ℕ) (next : Answer) where
@@ -60,11 +71,11 @@ module _ (group row : ℕ) (values : List XFieldElement) (i : ℕ) (next : Answe
         value_nonzero group row vs i next (omega (arith, sized)) (ap is_zero_x value_at_lem ∙ sym f ∙ not-true t z) ∙ ap (nonzero group row i) value_at_lem
 
 -- ---- row by row
-some_found : (o : Option Nonzero) → is_some o ≡ true → (a b : Answer) → followed_by o a ≡ followed_by o b
+pub some_found : (o : Option Nonzero) → is_some o ≡ true → (a b : Answer) → followed_by o a ≡ followed_by o b
 some_found None e a b = absurd (let z : ◌≡◌ {A = ℕ} 0 1 = cc in omega arith)
 some_found (Some n) e a b = refl
 
-none_found : (o : Option Nonzero) → is_some o ≡ false → (a : Answer) → followed_by o a ≡ a
+pub none_found : (o : Option Nonzero) → is_some o ≡ false → (a : Answer) → followed_by o a ≡ a
 none_found None e a = refl
 none_found (Some n) e a = absurd (let z : ◌≡◌ {A = ℕ} 0 1 = cc in omega arith)
 

@@ -5,9 +5,11 @@
 ghost use Rattle.std.specs.Prelude.{◌≡◌, ◌*◌, ◌-◌, ◌≤◌, ◌<◌, length, map};
 ghost use Rattle.words.specs.Answers.{Answer};
 ghost use Rattle.xfield.specs.XFieldElements.{ext_of};
-ghost use Rattle.table.specs.Columns.{aux_width, row_count};
+ghost use Rattle.table.specs.Columns.{aux_width, row_at, row_count};
 ghost use Rattle.table.specs.Challenges.{challenge_words};
-ghost use Rattle.air.specs.Check.{initial_at, consistency_at, transition_at, terminal_at, first_in, first_in_rows};
+ghost use Rattle.table.specs.Layouts.{sum_of, challenges_in};
+ghost use Rattle.air.specs.Constraints.{initial_constraints};
+ghost use Rattle.air.specs.Check.{consistency_at, transition_at, terminal_at, first_in, first_in_rows};
 ghost use Rattle.check_search.specs.Finds.{group_number, followed_by};
 
 use table::{AuxRow, Challenges, MainRow};
@@ -46,34 +48,20 @@ pub struct Nonzero {
 fn first_nonzero(group: Group, row: usize, values: &[XFieldElement]) -> Option<Nonzero>
     ensures { (next : Answer) → followed_by result next ≡ first_in (group_number group) row 0 (map ext_of values.now) next }
 {
-    for index in 0..values.len() {
-        let value = values[index];
+    for (index, value) in values.iter().enumerate() {
         if !value.is_zero() {
             return Some(Nonzero {
                 group,
                 row,
                 index,
-                value,
+                value: *value,
             });
         }
     }
     None
 }
 
-// Initial, on row 0.
-pub fn initial(table: &[u64], aux: &[u64], challenges: &[u64]) -> Option<Nonzero>
-    requires { (0 < row_count table.now) × ((aux_width ≤ length aux.now) × (challenge_words ≤ length challenges.now)) }
-    ensures { (next : Answer) → followed_by result next ≡ first_in_rows (initial_at table.now aux.now challenges.now) 0 0 1 next }
-{
-    let values = check_rows::initial_constraints(
-        Challenges::from_words(challenges),
-        MainRow::at(table, 0),
-        AuxRow::at(aux, 0),
-    );
-    first_nonzero(Group::Initial, 0, &values)
-}
-
-// Consistency, row by row. A row that gets a yes from the test is passed; any other is evaluated.
+// Consistency, row by row. A row that gets a yes from the test is passed; any other is evaluated. It asks nothing of the table.
 pub fn consistency(table: &[u64]) -> Option<Nonzero>
     ensures { (next : Answer) → followed_by result next ≡ first_in_rows (consistency_at table.now) 1 0 (row_count table.now) next }
 {
@@ -92,36 +80,65 @@ pub fn consistency(table: &[u64]) -> Option<Nonzero>
     None
 }
 
-// Transition, pair by pair. A pair that gets a yes from the test is passed; any other is evaluated.
-pub fn transition(table: &[u64], aux: &[u64], challenges: &[u64]) -> Option<Nonzero>
-    requires { (0 < row_count table.now) × ((aux_width * row_count table.now ≤ length aux.now) × (challenge_words ≤ length challenges.now)) }
-    ensures { (next : Answer) → followed_by result next ≡ first_in_rows (transition_at table.now aux.now challenges.now) 2 0 (row_count table.now - 1) next }
-{
-    let weights = Challenges::from_words(challenges);
-    let pairs = table.len() / MainRow::WIDTH - 1;
-    for upper in 0..pairs {
-        let row = MainRow::at(table, upper);
-        let row_next = MainRow::at(table, upper + 1);
-        let sum = AuxRow::at(aux, upper);
-        let sum_next = AuxRow::at(aux, upper + 1);
-        if check_plain::is_plain_pair(weights, row, row_next, sum, sum_next) {
-            continue;
-        }
-        let values = check_pairs::transition_constraints(weights, row, row_next, sum, sum_next);
-        let found = first_nonzero(Group::Transition, upper, &values);
-        if found.is_some() {
-            return found;
-        }
-    }
-    None
+// A table that has a row.
+#[derive(Clone, Copy)]
+pub struct Rows<'a> {
+    pub table: &'a [u64],
+    ghost some_row: { 0 < row_count table.now },
 }
 
-// Terminal, on the last row.
-pub fn terminal(table: &[u64]) -> Option<Nonzero>
-    requires { 0 < row_count table.now }
-    ensures { (next : Answer) → followed_by result next ≡ first_in_rows (terminal_at table.now) 3 (row_count table.now - 1) 1 next }
-{
-    let last = table.len() / MainRow::WIDTH - 1;
-    let values = check_rows::terminal_constraints(MainRow::at(table, last));
-    first_nonzero(Group::Terminal, last, &values)
+impl Rows<'_> {
+    // Initial, on row 0, with the sum of row 0.
+    pub fn initial(&self, weights: Challenges, sum: AuxRow) -> Option<Nonzero>
+        ensures { (next : Answer) → followed_by result next ≡ first_in 0 0 0 (initial_constraints (challenges_in weights) (row_at self.now.table.now 0) (sum_of sum)) next }
+    {
+        let values = check_rows::initial_constraints(weights, MainRow::at(self.table, 0), sum);
+        first_nonzero(Group::Initial, 0, &values)
+    }
+
+    // Terminal, on the last row.
+    pub fn terminal(&self) -> Option<Nonzero>
+        ensures { (next : Answer) → followed_by result next ≡ first_in_rows (terminal_at self.now.table.now) 3 (row_count self.now.table.now - 1) 1 next }
+    {
+        let last = self.table.len() / MainRow::WIDTH - 1;
+        let values = check_rows::terminal_constraints(MainRow::at(self.table, last));
+        first_nonzero(Group::Terminal, last, &values)
+    }
+}
+
+// Such a table with the sum of each row, and the challenges.
+#[derive(Clone, Copy)]
+pub struct JudgedTable<'a> {
+    pub rows: Rows<'a>,
+    pub aux: &'a [u64],
+    pub challenges: &'a [u64],
+    ghost aux_long: { aux_width * row_count rows.table.now ≤ length aux.now },
+    ghost challenges_long: { challenge_words ≤ length challenges.now },
+}
+
+impl JudgedTable<'_> {
+    // Transition, pair by pair. A pair that gets a yes from the test is passed; any other is evaluated.
+    pub fn transition(&self) -> Option<Nonzero>
+        ensures { (next : Answer) → followed_by result next ≡ first_in_rows (transition_at self.now.rows.table.now self.now.aux.now self.now.challenges.now) 2 0 (row_count self.now.rows.table.now - 1) next }
+    {
+        let table = self.rows.table;
+        let aux = self.aux;
+        let weights = Challenges::from_words(self.challenges);
+        let pairs = table.len() / MainRow::WIDTH - 1;
+        for upper in 0..pairs {
+            let row = MainRow::at(table, upper);
+            let row_next = MainRow::at(table, upper + 1);
+            let sum = AuxRow::at(aux, upper);
+            let sum_next = AuxRow::at(aux, upper + 1);
+            if check_plain::is_plain_pair(weights, row, row_next, sum, sum_next) {
+                continue;
+            }
+            let values = check_pairs::transition_constraints(weights, row, row_next, sum, sum_next);
+            let found = first_nonzero(Group::Transition, upper, &values);
+            if found.is_some() {
+                return found;
+            }
+        }
+        None
+    }
 }

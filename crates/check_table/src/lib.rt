@@ -1,15 +1,14 @@
 // The check of a table: the first constraint that is not zero.
 #![tactic(auto)]
 
-ghost use Rattle.std.specs.Prelude.{◌≡◌, ◌*◌, ◌≤◌, ◌<◌, length};
-ghost use Rattle.table.specs.Columns.{aux_width, row_count};
-ghost use Rattle.table.specs.Challenges.{challenge_words};
+ghost use Rattle.std.specs.Prelude.{◌≡◌, MatchResult};
+ghost use Rattle.words.specs.Refusals.{Fine, Declined};
 ghost use Rattle.air.specs.Check.{zero_answer, check_reason, first_nonzero, check_all};
 ghost use Rattle.check_search.specs.Finds.{followed_by};
 ghost use Rattle.check_table.specs.Verdicts.{verdict_answer, ZeroIff, Sound, Sums};
 
-use check_search::Nonzero;
-use table::MainRow;
+use check_search::{JudgedTable, Nonzero, Rows};
+use table::{AuxRow, Challenges, MainRow};
 use words::Refusal;
 
 // What the check answers: the first constraint that is not zero, or none; or why it is declined.
@@ -17,8 +16,12 @@ pub type Verdict = Result<Option<Nonzero>, Refusal>;
 
 // ---- refusals
 // Reasons 1, 7 and 8, in this order; no word is read where 1 or 7 is met.
-fn judge(table: &[u64], aux: &[u64], challenges: &[u64]) -> Result<(), Refusal>
-    ensures { result ≡ check_reason table.now aux.now challenges.now }
+fn judge<'a>(
+    table: &'a [u64],
+    aux: &'a [u64],
+    challenges: &'a [u64],
+) -> Result<JudgedTable<'a>, Refusal>
+    ensures { MatchResult result (λ judged. (judged.rows.table.now ≡ table.now) × (judged.aux.now ≡ aux.now) × (judged.challenges.now ≡ challenges.now) × (Fine ≡ check_reason table.now aux.now challenges.now)) (λ reason. Declined reason ≡ check_reason table.now aux.now challenges.now) }
 {
     if !table::have_shapes(table, aux, challenges) {
         return Err(Refusal::Shape);
@@ -32,19 +35,33 @@ fn judge(table: &[u64], aux: &[u64], challenges: &[u64]) -> Result<(), Refusal>
     if !table::all_reduced(aux) {
         return Err(Refusal::Unreduced);
     }
-    Ok(())
+    Ok(JudgedTable {
+        rows: Rows { table },
+        aux,
+        challenges,
+    })
 }
 
 // ---- the search, group by group
 // The first constraint that is not zero: initial, consistency, transition, terminal.
-fn search(table: &[u64], aux: &[u64], challenges: &[u64]) -> Option<Nonzero>
-    requires { (0 < row_count table.now) × ((aux_width * row_count table.now ≤ length aux.now) × (challenge_words ≤ length challenges.now)) }
-    ensures { followed_by result zero_answer ≡ first_nonzero table.now aux.now challenges.now }
+// No chain of `or_else`: it tells nothing of a closure that captures a struct with a reference in it.
+fn search(judged: &JudgedTable) -> Option<Nonzero>
+    ensures { followed_by result zero_answer ≡ first_nonzero judged.now.rows.table.now judged.now.aux.now judged.now.challenges.now }
 {
-    check_search::initial(table, aux, challenges)
-        .or_else(|| check_search::consistency(table))
-        .or_else(|| check_search::transition(table, aux, challenges))
-        .or_else(|| check_search::terminal(table))
+    let weights = Challenges::from_words(judged.challenges);
+    let initial = judged.rows.initial(weights, AuxRow::at(judged.aux, 0));
+    if initial.is_some() {
+        return initial;
+    }
+    let consistency = check_search::consistency(judged.rows.table);
+    if consistency.is_some() {
+        return consistency;
+    }
+    let transition = judged.transition();
+    if transition.is_some() {
+        return transition;
+    }
+    judged.rows.terminal()
 }
 
 // Evaluates the constraints group by group: initial on row 0, consistency row by row, transition pair by pair, terminal on the last row. The
@@ -56,6 +73,6 @@ pub fn check(table: &[u64], aux: &[u64], challenges: &[u64]) -> Verdict
     ensures sound { Sound table.now result }
     ensures sum { Sums table.now aux.now challenges.now result }
 {
-    judge(table, aux, challenges)?;
-    Ok(search(table, aux, challenges))
+    let judged = judge(table, aux, challenges)?;
+    Ok(search(&judged))
 }

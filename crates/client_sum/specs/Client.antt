@@ -1,5 +1,5 @@
 -- The client's sum (request 2): the processor's end of the lookup, "the sum of `LookupArg::compute_terminal`, taken over compressed rows".
-use Rattle.std.specs.Prelude.{ℕ, ◌+◌, ◌*◌, ◌/◌, ◌%◌, Bool, not, ◌&&◌, List, eqb, length, get_or, Result, Ok, Err}
+use Rattle.std.specs.Prelude.{ℕ, ◌/◌, ◌%◌, Bool, not, ◌&&◌, List, eqb, length, Result, Ok, Err}
 use Rattle.words.specs.Answers.{Answer, done, declined}
 use Rattle.words.specs.Outcomes.{answered}
 use Rattle.words.specs.Refusals.{decline_if, or_else, first_reason, Judgement}
@@ -9,7 +9,7 @@ use Rattle.xfield.specs.Extension.{Ext}
 use Rattle.xfield.specs.declared.XFieldElement.{XFieldElement}
 use Rattle.xfield.specs.XFieldElements.{ext_of}
 use Rattle.isa.specs.PlainFunctions.{plain_result}
-use Rattle.isa.specs.Entries.{lhs, rhs, entry, entry_width, judge_entry, admitted}
+use Rattle.isa.specs.Entries.{lhs, rhs, entry_in, entry_width, judge_entry, admitted}
 use Rattle.isa.specs.declared.U32TableEntry.{U32TableEntry}
 use Rattle.table.specs.Columns.{all_reduced}
 use Rattle.table.specs.Challenges.{Challenges, challenges_of, challenges_shape, denominator}
@@ -25,8 +25,7 @@ request_count requests = length requests / entry_width
 
 -- request i
 unfoldable pub request_at : List ℕ → ℕ → U32TableEntry
-request_at requests i =
-    entry (get_or requests (entry_width * i) 0) (get_or requests (entry_width * i + 1) 0) (get_or requests (entry_width * i + 2) 0)
+request_at requests i = entry_in requests i
 
 -- what it brings to the sum: the inverse of its denominator, once. Request 7: "the client's sum use the reduced one"
 unfoldable pub request_summand : (requests challenges : List ℕ) → ℕ → Summand

@@ -1,27 +1,16 @@
 // The client's sum: the processor's end of the lookup. Each request adds the inverse of its denominator; its Result is the plain function's.
 #![tactic(auto)]
 
-ghost use Rattle.std.specs.Prelude.{◌≡◌, ◌+◌, ◌*◌, ◌≤◌, length};
+ghost use Rattle.std.specs.Prelude.{◌≡◌};
 ghost use Rattle.xfield.specs.XFieldElements.{ext_of};
-ghost use Rattle.isa.specs.Entries.{entry_width};
 ghost use Rattle.table.specs.Layouts.{challenges_in};
-ghost use Rattle.client_sum.specs.Client.{entry_denominator, request_at, client_all, terminal_answer};
+ghost use Rattle.client_sum.specs.Client.{entry_denominator, client_all, terminal_answer};
 
 use field::BFieldElement;
 use isa::U32TableEntry;
 use table::Challenges;
 use words::Refusal;
 use xfield::XFieldElement;
-
-// Request i: three words.
-#[tactic(auto, unfolding(crate::specs::Client::request_at))]
-fn request_at(requests: &[u64], i: usize) -> U32TableEntry
-    requires { entry_width * i + entry_width ≤ length requests.now }
-    ensures { result ≡ request_at requests.now i }
-{
-    let at = U32TableEntry::WIDTH * i;
-    U32TableEntry::new(requests[at], requests[at + 1], requests[at + 2])
-}
 
 // The denominator of an entry.
 fn denominator_of(e: U32TableEntry, challenges: Challenges) -> XFieldElement
@@ -53,7 +42,7 @@ pub fn compute_terminal(requests: &[u64], challenges: &[u64]) -> Result<XFieldEl
     let elements = Challenges::from_words(challenges);
     let mut sum = XFieldElement::ZERO;
     for i in 0..requests.len() / U32TableEntry::WIDTH {
-        let entry = request_at(requests, i).admit()?;
+        let entry = U32TableEntry::at(requests, i).admit()?;
         let denominator = denominator_of(entry, elements);
         if denominator.is_zero() {
             return Err(Refusal::Flat);

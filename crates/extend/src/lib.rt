@@ -55,9 +55,7 @@ impl Summands for Rows<'_> {
         let row = MainRow::at(self.table, i);
         Some(Share {
             multiplicity: row.lookup_multiplicity,
-            denominator: self
-                .challenges
-                .denominator(row.lhs, row.rhs, row.ci, row.result),
+            denominator: self.challenges.row_denominator(row),
         })
     }
 }
@@ -70,6 +68,7 @@ fn are_rows_fine(rows: &Rows) -> bool
     if rows.table.len() % MainRow::WIDTH != 0 {
         return false;
     }
+    // By number, as `Summands` gives a row's share.
     for row in 0..rows.count() {
         if !table::are_ten_reduced(rows.table, MainRow::WIDTH * row) {
             return false;

@@ -1,23 +1,14 @@
 -- Congruence modulo m, for any m: `Cong m a b` says that a and b leave the same remainder. It is a record, so that its laws
 -- take a, b and m as implicit arguments, and a proof is a chain of steps,
 --     c_mul c_refl c_mod ⨾ c_eq (mul_assoc x y z) ⨾ c_add h c_refl
--- with `.same` at its end for the plain equation of remainders. The laws of products under %, which the library lacks, are here
--- too. Assumes nothing.
-use Rattle.std.proofs.Common.{◌≡◌, ℕ, zero, suc, ◌+◌, ◌*◌, ◌/◌, ◌%◌, ◌^◌, ◌<◌, sym, refl, ap, ◌∙◌, ap₂, mod-eq_of_lt, mul_assoc, mul_comm, one-mul, pow-suc, mul-zero, div-add-mod', zero-add, mul-one, mul-suc, arith, pow-add}
-use native.Mathlib.Nat.{mul-add-mod_self_right, mul-mul-mul_comm, add-mod, pow-zero, mod-mod}
+-- with `.same` at its end for the plain equation of remainders. Assumes nothing.
+use Rattle.std.proofs.Common.{◌≡◌, ℕ, zero, suc, ◌+◌, ◌*◌, ◌/◌, ◌%◌, ◌^◌, ◌<◌, sym, refl, ap, ◌∙◌, ap₂, mod-eq_of_lt, mul_assoc, mul_comm, one-mul, pow-suc, mul-zero, div-add-mod', zero-add, mul-one, mul-suc, pow-add}
+use native.Mathlib.Nat.{add-mod, pow-zero, mod-mod}
+use Rattle.std.proofs.lemmas.Nat.{mul-mod_first, mul-mod_second, mul-pow}
 
 -- ---- products under %
-pub mod_mul_mod : (a b m : ℕ) → a % m * b % m ≡ a * b % m
-mod_mul_mod a b m = sym (ap (λ (x : ℕ). x % m) split ∙ mul-add-mod_self_right (a / m * b) m (a % m * b))
-  where
-    split : a * b ≡ a / m * b * m + a % m * b
-    split = ap (λ (x : ℕ). x * b) (sym (div-add-mod' a m)) ∙ omega arith
-
-pub mul_mod_mod : (a b m : ℕ) → a * (b % m) % m ≡ a * b % m
-mul_mod_mod a b m = ap (λ (x : ℕ). x % m) (mul_comm a (b % m)) ∙ mod_mul_mod b a m ∙ ap (λ (x : ℕ). x % m) (mul_comm b a)
-
 pub mul_mod : (a b m : ℕ) → a % m * (b % m) % m ≡ a * b % m
-mul_mod a b m = mod_mul_mod a (b % m) m ∙ mul_mod_mod a b m
+mul_mod a b m = mul-mod_first a (b % m) m ∙ mul-mod_second a b m
 
 -- ---- congruence, and its laws
 infixr 30 ◌⨾◌
@@ -77,12 +68,6 @@ one_pow (suc i) = pow-suc 1 i ∙ mul-one (1 ^ i) ∙ one_pow i
 pub pow_one : (a : ℕ) → a ^ 1 ≡ a
 pow_one a = pow-suc a 0 ∙ ap (λ (x : ℕ). x * a) (pow-zero a) ∙ one-mul a
 
-pub mul_pow : (a b i : ℕ) → (a * b) ^ i ≡ a ^ i * b ^ i
-mul_pow a b zero = pow-zero (a * b) ∙ ap₂ (λ (x y : ℕ). x * y) (sym (pow-zero a)) (sym (pow-zero b))
-mul_pow a b (suc i) =
-    pow-suc (a * b) i ∙ ap (λ (x : ℕ). x * (a * b)) (mul_pow a b i) ∙ mul-mul-mul_comm (a ^ i) (b ^ i) a b
-    ∙ ap₂ (λ (x y : ℕ). x * y) (sym (pow-suc a i)) (sym (pow-suc b i))
-
 pub pow_mul : (a i j : ℕ) → a ^ (i * j) ≡ (a ^ i) ^ j
 pow_mul a i zero = ap (λ (x : ℕ). a ^ x) (mul-zero i) ∙ pow-zero a ∙ sym (pow-zero (a ^ i))
 pow_mul a i (suc j) =
@@ -97,4 +82,4 @@ pow_odd a j = pow-add a (2 * j) 1 ∙ ap₂ (λ (x y : ℕ). x * y) (pow_even a 
 
 -- the powers of an inverse are inverses of the powers
 pub pow_unit : {m : ℕ} (b u i : ℕ) → Cong m (b * u) 1 → Cong m (b ^ i * u ^ i) 1
-pow_unit b u i h = c_eq (sym (mul_pow b u i)) ⨾ c_pow i h ⨾ c_eq (one_pow i)
+pow_unit b u i h = c_eq (sym (mul-pow b u i)) ⨾ c_pow i h ⨾ c_eq (one_pow i)

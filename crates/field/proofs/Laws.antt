@@ -16,6 +16,8 @@ pub use Rattle.field.proofs.RingLaws.{add_f_lt, sub_f_lt, neg_f_lt, mul_f_lt, ad
 pub use Rattle.field.proofs.RingLaws.{add_f_of_red, mul_f_of_red}
 -- order and grouping; mul_f a (add_f b d) ≡ add_f (mul_f a b) (mul_f a d)
 pub use Rattle.field.proofs.RingLaws.{add_f_comm, add_f_assoc, mul_f_comm, mul_f_assoc, mul_f_add_f}
+-- 0 times anything is 0: mul_f 0 a ≡ 0
+pub use Rattle.field.proofs.RingLaws.{mul_f_zero_left}
 -- ---- inverse-or-zero: inv_f a < p; a % p ≡ 0 → inv_f a ≡ 0; a % p ≢ 0 → mul_f a (inv_f a) ≡ 1; no other word is so (inv_f_only,
 -- inv_f_by_product); inv_f (a % p) ≡ inv_f a; a % p ≢ 0 → inv_f a ≢ 0; x % 2 ≡ 0 → add_f (inv_f x) (inv_f x) ≡ inv_f (x / 2)
 pub use Rattle.field.proofs.Inverses.{inv_f_lt, inv_f_none, inv_f_product, inv_f_only, inv_f_by_product}
@@ -62,10 +64,6 @@ pub mul_f_one_right : (a : ℕ) → a < p → mul_f a 1 ≡ a
 mul_f_one_right a l = mul_f_comm a 1 ∙ mul_f_one_left a l
 
 -- 0 times anything is 0
-pub mul_f_zero_left : (a : ℕ) → mul_f 0 a ≡ 0
-unfolding mul_f
-mul_f_zero_left a = omega arith
-
 pub mul_f_zero_right : (a : ℕ) → mul_f a 0 ≡ 0
 mul_f_zero_right a = mul_f_comm a 0 ∙ mul_f_zero_left a
 

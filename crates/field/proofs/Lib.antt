@@ -1,5 +1,6 @@
 pub mod Ring
 pub mod RingLaws
+pub mod Words
 pub mod Naturals
 pub mod Congruence
 pub mod Counting

@@ -7,7 +7,8 @@
 use Rattle.std.proofs.Common.{◌≡◌, ℕ, zero, suc, ◌+◌, ◌-◌, ◌*◌, ◌/◌, ◌%◌, ◌^◌, ◌<◌, ◌≤◌, ◌≢◌, ◌⊎◌, sym, refl, ap, ◌∙◌, inl, inr, add-zero, mod-lt, mul_comm, mul-le-mul, one-mul, mul-zero, zero-mul, mul-one, arith, pow-add}
 use native.Mathlib.Nat.{mul-mod_right, zero-mod, mul-div_cancel'}
 use native.Mathlib.Decide.{ℕ_discrete, dec_lt}
-use Rattle.field.proofs.Congruence.{Cong, c_eq, c_refl, c_sym, ◌⨾◌, c_mod, c_mul, c_add, c_pow, c_below, one_pow, mul_pow, pow_even, pow_odd, c_dvd, c_cancel, pow_unit}
+use Rattle.std.proofs.lemmas.Nat.{mul-pow}
+use Rattle.field.proofs.Congruence.{Cong, c_eq, c_refl, c_sym, ◌⨾◌, c_mod, c_mul, c_add, c_pow, c_below, one_pow, pow_even, pow_odd, c_dvd, c_cancel, pow_unit}
 use Rattle.field.proofs.Counting.{Injection, pigeonhole}
 use Rattle.field.specs.Elements.{p}
 use Rattle.field.specs.Primes.{Prime}
@@ -34,7 +35,7 @@ squared_mod_squared m (suc k) c = squared_mod_squared m k (c * c % m) ⨾ square
 squared_pow : (k c i : ℕ) → squared k (c ^ i) ≡ squared k c ^ i
 unfolding squared
 squared_pow zero c i = refl
-squared_pow (suc k) c i = ap (squared k) (sym (mul_pow c c i)) ∙ squared_pow k (c * c) i
+squared_pow (suc k) c i = ap (squared k) (sym (mul-pow c c i)) ∙ squared_pow k (c * c) i
 
 squared_one : (k : ℕ) → squared k 1 ≡ 1
 unfolding squared

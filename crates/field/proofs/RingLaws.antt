@@ -3,9 +3,9 @@
 -- element, whose other side is a remainder (add_f 0 a ≡ a % p). Assumes nothing.
 use Rattle.std.proofs.Common.{◌≡◌, ℕ, ◌+◌, ◌-◌, ◌*◌, ◌%◌, ◌<◌, sym, refl, ap, ◌∙◌, add_assoc, mod-lt, mul_assoc, mul_comm, add_comm, one-mul, zero-add, zero-mul, mul-add, arith, lit<}
 use native.Mathlib.Nat.{mod-mod, add-mod-mod, mod-add-mod, add-mul-mod_self_left}
+use Rattle.std.proofs.lemmas.Nat.{mul-mod_first, mul-mod_second}
 use Rattle.field.specs.Elements.{p, add_f, mul_f, sub_f, neg_f}
 use Rattle.field.proofs.Ring.{Ring}
-use Rattle.field.proofs.Congruence.{mul_mod_mod, mod_mul_mod}
 
 -- ---- every answer is below p
 p_pos : 0 < p
@@ -42,12 +42,12 @@ mul_f_comm a b = ap (λ t. t % p) (mul_comm a b)
 
 pub mul_f_assoc : (a b d : ℕ) → mul_f (mul_f a b) d ≡ mul_f a (mul_f b d)
 unfolding mul_f
-mul_f_assoc a b d = mod_mul_mod (a * b) d p ∙ ap (λ t. t % p) (mul_assoc a b d) ∙ sym (mul_mod_mod a (b * d) p)
+mul_f_assoc a b d = mul-mod_first (a * b) d p ∙ ap (λ t. t % p) (mul_assoc a b d) ∙ sym (mul-mod_second a (b * d) p)
 
 pub mul_f_add_f : (a b d : ℕ) → mul_f a (add_f b d) ≡ add_f (mul_f a b) (mul_f a d)
 unfolding mul_f add_f
 mul_f_add_f a b d =
-    mul_mod_mod a (b + d) p ∙ ap (λ t. t % p) (mul-add a b d)
+    mul-mod_second a (b + d) p ∙ ap (λ t. t % p) (mul-add a b d)
     ∙ sym (mod-add-mod (a * b) p ((a * d) % p) ∙ add-mod-mod (a * b) (a * d) p)
 
 -- p - r is (p - 1) r, modulo p
@@ -59,7 +59,7 @@ less_mod b =
     sym (add-mul-mod_self_left (p - b % p) p (b % p))
     ∙ ap (λ t. t % p) (less (b % p) (mod-lt b p_pos))
     ∙ drop ((p - 1) * (b % p))
-    ∙ mul_mod_mod (p - 1) b p
+    ∙ mul-mod_second (p - 1) b p
   where
     drop : (x : ℕ) → (x + p) % p ≡ x % p
     drop x = omega arith
@@ -91,15 +91,15 @@ add_f_of_red a b = add-mod-mod a b p
 
 pub mul_f_of_red : (a b : ℕ) → mul_f a (b % p) ≡ mul_f a b
 unfolding mul_f
-mul_f_of_red a b = mul_mod_mod a b p
+mul_f_of_red a b = mul-mod_second a b p
 
 pub add_f_zero : (a : ℕ) → add_f 0 a ≡ a % p
 unfolding add_f
 add_f_zero a = ap (λ t. t % p) (zero-add a)
 
-pub mul_f_zero : (a : ℕ) → mul_f 0 a ≡ 0
+pub mul_f_zero_left : (a : ℕ) → mul_f 0 a ≡ 0
 unfolding mul_f
-mul_f_zero a = ap (λ t. t % p) (zero-mul a)
+mul_f_zero_left a = ap (λ t. t % p) (zero-mul a)
 
 pub mul_f_one : (a : ℕ) → mul_f 1 a ≡ a % p
 unfolding mul_f
@@ -111,7 +111,7 @@ red_add_f a b = sym (mod-add-mod a p (b % p) ∙ add-mod-mod a b p)
 
 pub red_mul_f : (a b : ℕ) → (a * b) % p ≡ mul_f (a % p) (b % p)
 unfolding mul_f
-red_mul_f a b = sym (mod_mul_mod a (b % p) p ∙ mul_mod_mod a b p)
+red_mul_f a b = sym (mul-mod_first a (b % p) p ∙ mul-mod_second a b p)
 
 -- ---- the base field, for the solver
 abbrev pub 𝔹 : Ring ℕ
@@ -133,7 +133,7 @@ abbrev pub 𝔹 : Ring ℕ
   add_red = add_f_of_red;
   mul_red = mul_f_of_red;
   zero-add = add_f_zero;
-  zero-mul = mul_f_zero;
+  zero-mul = mul_f_zero_left;
   one-mul = mul_f_one;
   c_add = red_add_f;
   c_mul = red_mul_f;

@@ -30,6 +30,7 @@ fn fill_sections(sizes: Sizes, keys: &[u64], multiplicities: &[u64], table: &mut
     ensures table_after { table.new ≡ filled (u32_list sizes keys.now multiplicities.now) table.old }
 {
     let mut row: usize = 0;
+    // By place, as `entry_at` reads the words of a key: `zip` would need a second way to read them.
     for place in 0..sizes.used {
         let entry = list::entry_at(keys, place);
         fill_sections::fill_entry(table, row, entry, multiplicities[place]);

@@ -2,7 +2,7 @@
 -- words end a section (`end_zero`, `zero_end`). Assumes nothing.
 use Prim.Native.Nat.{ℕ}
 use mathlib.Core.Path.{◌≡◌, refl}
-use mathlib.Core.Bool.{Bool, true, false, ◌&&◌, ◌||◌}
+use mathlib.Core.Bool.{Bool, true, false, ◌&&◌, ◌||◌, or-true}
 use mathlib.Core.Logic.{◌⊎◌, inl, inr}
 use native.Mathlib.Omega.{arith}
 use lib.Dec.{eqb}
@@ -74,7 +74,4 @@ end_zero ci l r e = go (eqb r 0) refl (eqb l 0) refl e where
 pub zero_end : (ci l r : ℕ) → r ≡ 0 → (l ≡ 0) ⊎ (ci ≡ op_pow) → is_end ci l r ≡ true
 unfolding is_end
 zero_end ci l r e (inl a) = rw (e, a)
-zero_end ci l r e (inr a) = rw (e, a) (either (eqb l 0)) where
-  either : (t : Bool) → (t || true) ≡ true
-  either true = refl
-  either false = refl
+zero_end ci l r e (inr a) = rw (e, a) (or-true (eqb l 0))

@@ -6,9 +6,9 @@
 -- Each goes down the rows; the height falls by one a row. Assumes nothing.
 use Prim.Native.Nat.{ℕ, zero, suc, ◌/◌, ◌≤◌}
 use mathlib.Core.Path.{◌≡◌, refl, sym, ap, ◌∙◌}
-use mathlib.Core.Bool.{Bool, true, false, cond, ◌&&◌, ◌||◌}
+use mathlib.Core.Bool.{Bool, true, false, cond}
 use mathlib.Core.List.{List, [], ◌∷◌}
-use mathlib.Core.Logic.{◌≢◌, ◌⊎◌, inl, inr}
+use mathlib.Core.Logic.{◌≢◌}
 use native.Mathlib.Omega.{arith}
 use lib.Dec.{eqb}
 use lib.ListN.{length}
@@ -50,13 +50,13 @@ next_height ci l r e = height_next (entry ci l r) (entry ci (next_lhs ci l) (r /
 -- ---- the section by its first row
 
 -- the rows from a row to the section's end, this one included
-abbrev left : Pending → ℕ
+abbrev pub left : Pending → ℕ
 left q = height (entry q.ci q.lhs q.rhs)
 
 last_left : (q : Pending) → is_last q ≡ true → left q ≡ 1
 last_left q e = end_height q.ci q.lhs q.rhs e
 
-next_left : (q : Pending) → is_last q ≡ false → left q ≡ suc (left (next_pending q))
+pub next_left : (q : Pending) → is_last q ≡ false → left q ≡ suc (left (next_pending q))
 next_left q e = next_height q.ci q.lhs q.rhs e
 
 some_left : (q : Pending) → 1 ≤ left q

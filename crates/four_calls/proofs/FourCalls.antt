@@ -6,12 +6,13 @@
 -- and the aux words are running sums.
 use Prim.Native.Nat.{ℕ, suc, ◌+◌, ◌-◌, ◌*◌, ◌<◌}
 use mathlib.Core.Path.{◌≡◌, sym, ap, ◌∙◌, subst}
-use mathlib.Core.Bool.{Bool, true, ◌&&◌, and-eq-true_iff}
+use mathlib.Core.Bool.{true}
 use mathlib.Core.List.{List, [], ◌∷◌}
 use native.Mathlib.Omega.{arith}
 use native.Mathlib.Numerals.{add-one}
 use lib.ListN.{length, get_or}
 use borrow.Author.Tests.{eq-eqb, ne_eqb}
+use Rattle.std.proofs.lemmas.Bool.{and_from}
 use Rattle.xfield.specs.Extension.{Ext, zero_x, HasInverse}
 use Rattle.words.specs.Answers.{done}
 use Rattle.words.specs.declared.Refusal.TheVariants.{Shape, Short, Unreduced}
@@ -48,9 +49,6 @@ use Rattle.sums.proofs.SumWords.{sums_length, sums_at}
 use Rattle.extend.proofs.Reasons.{extendable}
 use Rattle.four_calls.proofs.Calls.{Filled, fill_answer, fill_done, pad_done, shape_by_length}
 use Rattle.four_calls.proofs.Calls.{final_rows, final_count, padded_is}
-
-both : {s t : Bool} → s ≡ true → t ≡ true → (s && t) ≡ true
-both {s} {t} a b = (and-eq-true_iff s t).1 (a, b)
 
 -- ---- the words of honest rows in a chain, with their running sums
 module _ (xs : List Row) (chain : Chain front xs) (challenges : List ℕ) where
@@ -123,9 +121,9 @@ module _ (xs : List Row) (chain : Chain front xs) (challenges : List ℕ) where
     unfolding check_reason aux_shape
     check_accepts t s r n =
         let size = sums_length summands count in
-        or_next _ (decline_not_true Shape (both t (both (eq-eqb (length sums) (aux_width * count) size) s)))
+        or_next _ (decline_not_true Shape (and_from _ _ t (and_from _ _ (eq-eqb (length sums) (aux_width * count) size) s)))
         ∙ or_next _ (decline_false Short (ne_eqb count 0 (λ e. omega arith)))
-        ∙ decline_not_true Unreduced (both all_reduced_lem (both r (sums_reduced summands count)))
+        ∙ decline_not_true Unreduced (and_from _ _ all_reduced_lem (and_from _ _ r (sums_reduced summands count)))
 
     pub check_zero : table_shape words ≡ true → challenges_shape challenges ≡ true → all_reduced challenges ≡ true → 0 < count
         → check_all words sums challenges ≡ done []

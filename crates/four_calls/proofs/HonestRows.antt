@@ -82,7 +82,7 @@ module _ {row : Row} (h : HonestRow row) where
   }
 
   -- ---- Result at an opcode, where operands are 0
-  result_at : (o : ℕ) → row.ci ≡ o → row.result ≡ row_result o row.copy_flag row.bits row.lhs row.rhs
+  pub result_at : (o : ℕ) → row.ci ≡ o → row.result ≡ row_result o row.copy_flag row.bits row.lhs row.rhs
   result_at o e = h.result_is_lem ∙ ap (λ (c : ℕ). row_result c row.copy_flag row.bits row.lhs row.rhs) e
 
   ended : Ended row.ci row.copy_flag row.lhs row.rhs row.result

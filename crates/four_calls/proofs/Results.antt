@@ -5,7 +5,7 @@
 use Prim.Native.Nat.{ℕ, ◌+◌, ◌-◌, ◌*◌, ◌/◌, ◌%◌, ◌≤◌, ◌<◌}
 use mathlib.Core.Path.{◌≡◌, refl, sym, ap, ap₂, ◌∙◌, subst}
 use mathlib.Core.Logic.{◌≢◌, ◌⊎◌, inl, inr}
-use mathlib.Core.Bool.{Bool, true, false, cond}
+use mathlib.Core.Bool.{cond}
 use native.Mathlib.Omega.{arith}
 use native.Mathlib.Decide.{ℕ_discrete}
 use lib.Dec.{lit<, eqb}
@@ -18,7 +18,7 @@ use Rattle.isa.proofs.Entries.{OneOfSix}
 use Rattle.isa.proofs.Logarithm.{floor_log2_half, floor_log2_one, floor_log2_below}
 use Rattle.isa.proofs.PlainLaws.{lt_bit, lt_same, lt_step, lt_step_same, and_zero_left, and_left, and_step_bits, pow-zero}
 use Rattle.isa.proofs.PlainLaws.{pow_step_zero, pow_step_one}
-use Rattle.isa.proofs.PlainLaws.{one_bits_zero, one_bits_step, one_bits_le, result_below}
+use Rattle.isa.proofs.PlainLaws.{one_bits_zero, one_bits_step, one_bits_le, below_cond, result_below}
 use Rattle.check_plain.specs.Plain.{LtEqual, LtCarried, known_0, known_1, bits_01, bits_10, bits_same}
 use Rattle.check_plain.proofs.Steps.{low_bit}
 use Rattle.std.specs.Prelude.{Some}
@@ -317,14 +317,10 @@ first_is ci lhs rhs h = go (ℕ_discrete ci op_lt) (ℕ_discrete ci op_log2_floo
 pub row_result_below : (ci copy_flag bits lhs rhs : ℕ) → lhs < p → bits ≤ 32 → row_result ci copy_flag bits lhs rhs < p
 unfolding row_result lt_result log2_floor_result
 row_result_below ci copy_flag bits lhs rhs h k =
-    either (eqb ci op_lt)
-    (either (eqb lhs rhs) (either (eqb copy_flag 1) (lit< tt) (lit< tt)) (omega (arith, lt_bit lhs rhs)))
-    (either (eqb ci op_log2_floor) (log (ℕ_discrete lhs 0)) (result_below ci lhs rhs h))
+    below_cond (eqb ci op_lt)
+    (below_cond (eqb lhs rhs) (below_cond (eqb copy_flag 1) (lit< tt) (lit< tt)) (omega (arith, lt_bit lhs rhs)))
+    (below_cond (eqb ci op_log2_floor) (log (ℕ_discrete lhs 0)) (result_below ci lhs rhs h))
   where
-    either : (t : Bool) {a b : ℕ} → a < p → b < p → cond t a b < p
-    either true f g = f
-    either false f g = g
-
     log : Dec (lhs ≡ 0) → cond (eqb lhs 0) (p - 1) (bits + floor_log2 lhs) < p
     log (yes e) = rw (eq-eqb lhs 0 e) (lit< tt)
     log (no n) = rw (ne_eqb lhs 0 n) (omega (arith, floor_log2_below lhs 64 n (omega arith)))

@@ -25,16 +25,13 @@ use Rattle.fill_sections.specs.Sections.{Pending, first_pending, next_pending, i
 use Rattle.fill_sections.specs.Sections.{section_row, next_lhs, Section, rows, no_section, above, above_section}
 use Rattle.fill_sections.specs.Sections.{section_from, section, first_row}
 use Rattle.fill_results.proofs.Results.{end_zero}
-use Rattle.fill_sections.proofs.Sections.{end_height, next_height, section_end, section_next}
+use Rattle.fill_sections.proofs.Sections.{left, end_height, next_left, section_end, section_next}
 use Rattle.four_calls.proofs.Results.{row_result, carry_is, ending_is, first_is}
 use Rattle.four_calls.proofs.HonestRows.{HonestRow, lhs_below}
 use Rattle.four_calls.proofs.Steps.{Follows, next_other, next_pow, follows_zero}
 use Rattle.four_calls.proofs.RowLists.{Each, Below, last_of}
 
 -- ---- a pending row, from which a section goes down
-abbrev left : Pending → ℕ
-left q = height (entry q.ci q.lhs q.rhs)
-
 -- the first row of a section, or one below it
 abbrev Flagged : Pending → Type 0
 Flagged q = ((q.copy_flag ≡ 0) × ((q.bits ≢ 0) × (q.multiplicity ≡ 0))) ⊎ ((q.copy_flag ≡ 1) × (q.bits ≡ 0))
@@ -79,9 +76,6 @@ next_limit ci l h = go (ℕ_discrete ci op_pow)
     go : Dec (ci ≡ op_pow) → next_lhs ci l < lhs_limit ci
     go (yes e) = omega (arith, next_pow l e)
     go (no n) = omega (arith, next_other l n)
-
-next_left : (q : Pending) → is_last q ≡ false → left q ≡ suc (left (next_pending q))
-next_left q e = next_height q.ci q.lhs q.rhs e
 
 module _ (q : Pending) (w : Fitting q) (going : is_last q ≡ false) where
   next_fits : Fitting (next_pending q)

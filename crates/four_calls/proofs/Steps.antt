@@ -29,7 +29,7 @@ use Rattle.fill_sections.specs.Sections.{next_lhs}
 use Rattle.four_calls.proofs.Results.{row_result, at_lt, at_log, at_and, at_pop_count, at_pow, lt_result, log2_floor_result}
 use Rattle.four_calls.proofs.Results.{lt_carried, LogCarried, zero_lhs, last_bit, more_bits, log_carried}
 use Rattle.four_calls.proofs.Results.{and_halves, carry_pop_count_is, pow_even, pow_odd}
-use Rattle.four_calls.proofs.HonestRows.{HonestRow, lhs_below}
+use Rattle.four_calls.proofs.HonestRows.{HonestRow, lhs_below, result_at}
 
 pub record Follows (upper lower : Row) : Type 0 where
   pub copy_flag_zero : lower.copy_flag ≡ 0
@@ -52,10 +52,6 @@ is_end_lem {row} e = (e.rhs_zero, go (ℕ_discrete row.ci op_pow))
     go (no n) = inl (e.lhs_zero n)
 
 module _ {upper lower : Row} (o : HonestRow upper) (o' : HonestRow lower) (f : Follows upper lower) where
-  upper_result : (opcode : ℕ) → upper.ci ≡ opcode
-      → upper.result ≡ row_result opcode upper.copy_flag upper.bits upper.lhs upper.rhs
-  upper_result opcode c = o.result_is_lem ∙ ap (λ (ci : ℕ). row_result ci upper.copy_flag upper.bits upper.lhs upper.rhs) c
-
   lower_result : (opcode : ℕ) → upper.ci ≡ opcode
       → lower.result ≡ row_result opcode 0 lower.bits (next_lhs opcode upper.lhs) (upper.rhs / 2)
   lower_result opcode c =
@@ -70,12 +66,12 @@ module _ {upper lower : Row} (o : HonestRow upper) (o' : HonestRow lower) (f : F
   lt_step c =
       subst (λ (x : ℕ). LtCarried upper.copy_flag upper.lhs upper.rhs x upper.result) (sym (lower_result op_lt c ∙ at_lt _ _ _ _))
       (subst (λ (x : ℕ). LtCarried upper.copy_flag upper.lhs upper.rhs (lt_result 0 (upper.lhs / 2) (upper.rhs / 2)) x)
-      (sym (upper_result op_lt c ∙ at_lt _ _ _ _))
+      (sym (result_at o op_lt c ∙ at_lt _ _ _ _))
       (lt_carried upper.copy_flag upper.lhs upper.rhs (flag_bit o.flagged)))
 
   and_step : upper.ci ≡ op_and → AndCarried upper.lhs upper.rhs lower.result upper.result
   and_step c =
-      upper_result op_and c ∙ at_and _ _ _ _ ∙ and_halves upper.lhs upper.rhs
+      result_at o op_and c ∙ at_and _ _ _ _ ∙ and_halves upper.lhs upper.rhs
       ∙ ap (λ (x : ℕ). 2 * x + (upper.lhs % 2) * (upper.rhs % 2)) (sym (lower_result op_and c ∙ at_and _ _ _ _))
 
   log_step : upper.ci ≡ op_log2_floor
@@ -83,7 +79,7 @@ module _ {upper lower : Row} (o : HonestRow upper) (o' : HonestRow lower) (f : F
   log_step c =
       carried (subst (λ (x : ℕ). LogCarried upper.bits upper.lhs x upper.result) (sym (lower_result op_log2_floor c ∙ at_log _ _ _ _))
       (subst (λ (x : ℕ). LogCarried upper.bits upper.lhs (log2_floor_result lower.bits (upper.lhs / 2)) x)
-      (sym (upper_result op_log2_floor c ∙ at_log _ _ _ _))
+      (sym (result_at o op_log2_floor c ∙ at_log _ _ _ _))
       (log_carried upper.bits lower.bits upper.lhs (bits_or_zero f.bits_next))))
     where
       bits_or_zero : (lower.bits ≡ upper.bits + 1) ⊎ EndRow upper → (lower.bits ≡ upper.bits + 1) ⊎ (upper.lhs ≡ 0)
@@ -105,7 +101,7 @@ module _ {upper lower : Row} (o : HonestRow upper) (o' : HonestRow lower) (f : F
   pow_step c = go (low_bit upper.rhs)
     where
       above : upper.result ≡ plain_pow upper.lhs upper.rhs
-      above = upper_result op_pow c ∙ at_pow _ _ _ _
+      above = result_at o op_pow c ∙ at_pow _ _ _ _
 
       below : plain_pow upper.lhs (upper.rhs / 2) ≡ lower.result
       below = sym (lower_result op_pow c ∙ at_pow _ _ _ _)
@@ -118,7 +114,7 @@ module _ {upper lower : Row} (o : HonestRow upper) (o' : HonestRow lower) (f : F
   pop_count_step : upper.ci ≡ op_pop_count → PopCountCarried upper.lhs lower.result upper.result
   unfolding carry_pop_count
   pop_count_step c =
-      upper_result op_pop_count c ∙ at_pop_count _ _ _ _ ∙ sym (carry_pop_count_is upper.lhs upper.rhs (lhs_below o))
+      result_at o op_pop_count c ∙ at_pop_count _ _ _ _ ∙ sym (carry_pop_count_is upper.lhs upper.rhs (lhs_below o))
       ∙ ap (λ (x : ℕ). add_f x (upper.lhs % 2)) (sym (lower_result op_pop_count c ∙ at_pop_count _ _ _ _))
 
   carried : OneOfSix upper.ci → Carried upper lower

@@ -9,6 +9,7 @@ use native.Mathlib.Nat.{mod-eq_of_lt, mod-lt}
 use native.Mathlib.Omega.{arith}
 use borrow.Author.Tests.{lt-ltb, le-ltb, eq-eqb, ne_eqb, ltb-true, ltb-false, eqb-true, eqb-false}
 use lib.Dec.{eqb, ltb}
+use Rattle.std.proofs.lemmas.Bool.{and_from, and_parts}
 use Rattle.field.specs.Elements.{p}
 use Rattle.words.specs.declared.Refusal.{Refusal}
 use Rattle.words.specs.declared.Refusal.TheVariants.{Stranger, Wide, BareLog}
@@ -85,13 +86,6 @@ pub record Admissible (e : U32TableEntry) : Type 0 where
   pub right : rhs e < rhs_limit
   pub log : e.opcode ≡ op_log2_floor → lhs e ≢ 0
 
-and-true : {s t : Bool} → s ≡ true → t ≡ true → (s && t) ≡ true
-and-true a b = rw (a, b)
-
-both : (s t : Bool) → (s && t) ≡ true → (s ≡ true) × (t ≡ true)
-both true t h = (refl, h)
-both false t h = absurd (let z : ◌≡◌ {A = ℕ} 0 1 = cc in omega arith)
-
 not_both : (s t : Bool) → (s && t) ≡ false → s ≡ true → t ≡ false
 not_both true t h e = h
 not_both false t h e = absurd (let z : ◌≡◌ {A = ℕ} 0 1 = cc in omega arith)
@@ -110,7 +104,7 @@ pub judged_admissible : (e : U32TableEntry) → judge_as_it_is e ≡ Fine → Ad
 judged_admissible e f =
     let a = or_both _ _ (sym (reasons e) ∙ f) in
     let b = or_both _ _ a.1 in
-    let w = both (ltb (lhs e) (lhs_limit e.opcode)) (ltb (rhs e) rhs_limit) (decline_not_fine _ _ b.0) in
+    let w = and_parts (ltb (lhs e) (lhs_limit e.opcode)) (ltb (rhs e) rhs_limit) (decline_not_fine _ _ b.0) in
     let l = decline_fine (eqb e.opcode op_log2_floor && eqb (lhs e) 0) _ b.1 in
     record {
       known = decline_not_fine (is_opcode e.opcode) _ a.0;
@@ -123,7 +117,7 @@ pub admissible_judged : (e : U32TableEntry) → Admissible e → judge_as_it_is 
 admissible_judged e a =
     reasons e
     ∙ or_next _ (decline_not_true _ a.known)
-    ∙ or_next _ (decline_not_true _ (and-true (lt-ltb (lhs e) (lhs_limit e.opcode) a.left) (lt-ltb (rhs e) rhs_limit a.right)))
+    ∙ or_next _ (decline_not_true _ (and_from _ _ (lt-ltb (lhs e) (lhs_limit e.opcode) a.left) (lt-ltb (rhs e) rhs_limit a.right)))
     ∙ decline_false _ (bare (eqb e.opcode op_log2_floor) refl)
   where
     bare : (t : Bool) → eqb e.opcode op_log2_floor ≡ t → (t && eqb (lhs e) 0) ≡ false

@@ -9,6 +9,7 @@ use borrow.Author.Tests.{lt-ltb, le-ltb, ltb-true, ltb-false, eqb-true, eqb-fals
 use lib.Dec.{eqb, ltb}
 use lib.Bits.{and_step, and_zero_l, and_zero_r, and_le_l, and_le_r}
 use lib.Count.{ones, ones_step, ones-le}
+use Rattle.std.proofs.lemmas.Bool.{cond_both}
 use Rattle.field.specs.Elements.{p, mul_f}
 use Rattle.field.proofs.Laws.{pow_f_lt, pow_f_zero, pow_f_double, pow_f_double_suc}
 use Rattle.isa.specs.Opcodes.{op_split, op_lt, op_log2_floor, op_and, op_pop_count, op_pow}
@@ -160,9 +161,8 @@ module _ (l r : ℕ) where
   unfolding plain_result
   result_pop_count = refl
 
-below_cond : (t : Bool) {a b : ℕ} → a < p → b < p → cond t a b < p
-below_cond true f g = f
-below_cond false f g = g
+pub below_cond : (t : Bool) {a b : ℕ} → a < p → b < p → cond t a b < p
+below_cond t {a} {b} f g = cond_both t a b (λ (n : ℕ). n < p) (λ _. f) (λ _. g)
 
 log_below : (l : ℕ) → l < p → floor_log2 l < p
 log_below l h = go (eqb l 0) refl where

@@ -1,5 +1,5 @@
 -- Entry and height (document 01, under that heading): admission, the height of an entry, the order of entries.
-use Rattle.std.specs.Prelude.{ℕ, ◌+◌, ◌%◌, max, cond, not, ◌&&◌, List, [], ◌∷◌, eqb, ltb, Result, Ok, Err}
+use Rattle.std.specs.Prelude.{ℕ, ◌+◌, ◌*◌, ◌%◌, max, cond, not, ◌&&◌, List, [], ◌∷◌, eqb, ltb, get_or, Result, Ok, Err}
 use Rattle.field.specs.Elements.{p}
 use Rattle.words.specs.declared.Refusal.{Refusal}
 use Rattle.words.specs.declared.Refusal.TheVariants.{Stranger, Wide, BareLog}
@@ -26,6 +26,10 @@ entry_words e = e.opcode ∷ lhs e ∷ rhs e ∷ []
 
 abbrev pub entry_width : ℕ
 entry_width = 3
+
+-- the entry that stands at place i of a list of words, three words an entry
+abbrev pub entry_in : List ℕ → ℕ → U32TableEntry
+entry_in ws i = entry (get_or ws (entry_width * i) 0) (get_or ws (entry_width * i + 1) 0) (get_or ws (entry_width * i + 2) 0)
 
 -- "both operands below 2^32, but LHS of pow below p"
 abbrev pub lhs_limit : ℕ → ℕ

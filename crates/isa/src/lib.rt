@@ -1,11 +1,11 @@
 // The six instructions of the U32 table, and an entry of it: admission, height, order.
 #![tactic(auto)]
 
-ghost use Rattle.std.specs.Prelude.{◌≡◌, ◌≤◌, not, ◌&&◌, eqb, ltb};
+ghost use Rattle.std.specs.Prelude.{◌≡◌, ◌+◌, ◌*◌, ◌≤◌, ◌<◌, not, ◌&&◌, eqb, ltb, length};
 ghost use Rattle.words.specs.declared.Refusal.TheVariants.{Wide, BareLog};
 ghost use Rattle.words.specs.Refusals.{decline_if};
 ghost use Rattle.isa.specs.Opcodes.{op_log2_floor, opcode_number, Decodes};
-ghost use Rattle.isa.specs.Entries.{lhs, rhs, lhs_limit, rhs_limit, entry, judge_as_it_is, admit_stored, admitted, admission, dominant, height, compare_entries};
+ghost use Rattle.isa.specs.Entries.{lhs, rhs, lhs_limit, rhs_limit, entry, entry_in, entry_width, judge_as_it_is, admit_stored, admitted, admission, dominant, height, compare_entries};
 ghost use Rattle.isa.specs.Entries.{admit as admit_of};
 ghost use Rattle.isa.specs.PlainFunctions.{floor_log2, plain_result};
 
@@ -81,6 +81,15 @@ impl U32TableEntry {
             left_operand,
             right_operand,
         }
+    }
+
+    // The entry that stands at a place of words, three words an entry.
+    pub fn at(words: &[u64], place: usize) -> Self
+        requires { entry_width * place + 2 < length words.now }
+        ensures { result ≡ entry_in words.now place }
+    {
+        let first = Self::WIDTH * place;
+        Self::new(words[first], words[first + 1], words[first + 2])
     }
 
     // Reason 3: an operand is outside its range, which for the left one is `limit`.

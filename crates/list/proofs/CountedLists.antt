@@ -12,7 +12,7 @@ use native.Mathlib.Nat.{add-zero, zero-add}
 use native.Mathlib.Decide.{dec_lt}
 use native.Mathlib.Omega.{arith}
 use lib.Dec.{eqb}
-use lib.ListN.{length, get_or, length-append, get_or-append}
+use lib.ListN.{length, get_or, length-append, length-map, get_or-append}
 use lib.Seq.{get_or-append_seam}
 use borrow.Author.Tests.{eqb-true, eqb-false, eq-eqb, ne_eqb}
 use Rattle.words.specs.Places.{places_from, places}
@@ -104,18 +104,10 @@ key_of_words f (i ∷ is) z ms (suc j) h =
     let c : 3 * suc j + 2 ≡ suc (suc (suc (3 * j + 2))) = omega arith in
     rw (b, c, a) (key_of_words f is z ms j (omega arith))
 
-pub map_length : (f : ℕ → ℕ) (is : List ℕ) → length (map f is) ≡ length is
-map_length f [] = refl
-map_length f (i ∷ is) = ap suc (map_length f is)
-
 pub map_at : (f : ℕ → ℕ) (is : List ℕ) (j : ℕ) → j < length is → get_or (map f is) j 0 ≡ f (get_or is j 0)
 map_at f [] j h = absurd (omega arith)
 map_at f (i ∷ is) zero h = refl
 map_at f (i ∷ is) (suc j) h = map_at f is j (omega arith)
-
-pub map_join : {A : Type 0} (f : ℕ → A) (is js : List ℕ) → map f (is ++ js) ≡ map f is ++ map f js
-map_join f [] js = refl
-map_join {A} f (i ∷ is) js = ap (λ (xs : List A). f i ∷ xs) (map_join f is js)
 
 -- a run of places, as many as a list has, with what stands in the list
 pub places_map : {A : Type 0} (g f : ℕ → A) (is : List ℕ) (i : ℕ) → ((j : ℕ) → j < length is → g (i + j) ≡ f (get_or is j 0))
@@ -152,7 +144,7 @@ module _ (l : U32List) where
     small = omega (arith, counted_at_most l (used l), s.within, s.small);
     within = omega arith;
     keys = words_length (key_at l) (counted_places l);
-    multiplicities = map_length (multiplicity_at l) (counted_places l);
+    multiplicities = length-map (counted_places l) (multiplicity_at l);
   }
 
   pub counted_admitted : ListAdmitted l → ListAdmitted (counted l)

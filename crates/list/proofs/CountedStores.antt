@@ -7,15 +7,16 @@ use mathlib.Core.Logic.{◌≢◌}
 use mathlib.Core.List.{List, [], ◌∷◌, ◌++◌, map, flat_map, append-nil, append_assoc}
 use native.Mathlib.Numerals.{add-one}
 use native.Mathlib.Omega.{arith}
-use lib.ListN.{length, set, take, length-append}
+use lib.ListN.{length, set, take, length-append, length-map}
 use lib.Seq.{sets, length-sets, length-take-le}
+use Rattle.std.proofs.lemmas.List.{map_push}
 use Rattle.words.specs.Limits.{max_places}
 use Rattle.words.proofs.Sets.{sets_append, take_sets_front}
 use Rattle.isa.specs.Entries.{entry_words, entry_width}
 use Rattle.list.specs.declared.Sizes.{Sizes}
 use Rattle.list.specs.Lists.{U32List, u32_list, used, key_at, multiplicity_at}
 use Rattle.list.specs.Counted.{counted_to, counted_places, counted}
-use Rattle.list.proofs.CountedLists.{counted_at_most, counted_more, counted_same, counted_few, words_length, map_length}
+use Rattle.list.proofs.CountedLists.{counted_at_most, counted_more, counted_same, counted_few, words_length}
 
 -- what is stored of the counted places among the first n
 abbrev pub keys_to : U32List → ℕ → List ℕ
@@ -28,10 +29,6 @@ flat_last : (f : ℕ → List ℕ) (ps : List ℕ) (i : ℕ) → flat_map f (ps 
 unfolding flat_map
 flat_last f [] i = append-nil (f i)
 flat_last f (k ∷ ps) i = ap (λ (xs : List ℕ). f k ++ xs) (flat_last f ps i) ∙ sym (append_assoc (f k) (flat_map f ps) (f i))
-
-map_last : (m : ℕ → ℕ) (ps : List ℕ) (i : ℕ) → map m (ps ++ (i ∷ [])) ≡ map m ps ++ (m i ∷ [])
-map_last m [] i = refl
-map_last m (k ∷ ps) i = ap (λ (xs : List ℕ). m k ∷ xs) (map_last m ps i)
 
 -- Of the first i places n are counted, and they stand at the front of the arrays; ks₀ and ms₀ are the arrays as they were
 pub record Stored (l : U32List) (ks₀ ms₀ ks ms : List ℕ) (n i : ℕ) : Type 0 where
@@ -71,7 +68,7 @@ module _ {l : U32List} {ks₀ ms₀ ks ms : List ℕ} {n i : ℕ} (s : Stored l 
       let one = ap (λ (ps : List ℕ). length ps) more ∙ length-append (counted_to l i) (i ∷ []) in
       let e = s.count in
       let k = words_length (key_at l) (counted_to l i) in
-      let c = map_length (multiplicity_at l) (counted_to l i) in
+      let c = length-map (counted_to l i) (multiplicity_at l) in
       let atk : entry_width * n ≡ 0 + length (keys_to l i) = omega (arith, e, k) in
       let atc : n ≡ 0 + length (counts_to l i) = omega (arith, e, c) in
       record {
@@ -91,7 +88,7 @@ module _ {l : U32List} {ks₀ ms₀ ks ms : List ℕ} {n i : ℕ} (s : Stored l 
             ∙ ap (λ (j : ℕ). sets (sets ms₀ 0 (counts_to l i)) j (multiplicity_at l i ∷ [])) atc
             ∙ sym (sets_append (counts_to l i) (multiplicity_at l i ∷ []) ms₀ 0)
             ∙ ap (λ (ws : List ℕ). sets ms₀ 0 ws)
-            (sym (ap (λ (ps : List ℕ). map (multiplicity_at l) ps) more ∙ map_last (multiplicity_at l) (counted_to l i) i));
+            (sym (ap (λ (ps : List ℕ). map (multiplicity_at l) ps) more ∙ map_push (multiplicity_at l) (counted_to l i) i));
       }
 
   -- after the last turn
@@ -115,7 +112,7 @@ module _ (l : U32List) where
 
   counts_length : length (counted l).multiplicities ≡ used (counted l)
   unfolding counted
-  counts_length = map_length (multiplicity_at l) (counted_places l)
+  counts_length = length-map (counted_places l) (multiplicity_at l)
 
 -- ---- parts of the arrays, lent on
 

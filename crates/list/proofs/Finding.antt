@@ -12,6 +12,7 @@ use native.Mathlib.Numerals.{add-one}
 use lib.Dec.{eqb, ltb}
 use lib.ListN.{get_or}
 use borrow.Author.Tests.{eqb-true, eq-eqb, lt-ltb, le-ltb}
+use Rattle.std.proofs.lemmas.Bool.{and_parts}
 use Rattle.isa.specs.declared.U32TableEntry.{U32TableEntry}
 use Rattle.field.specs.Elements.{p}
 use Rattle.isa.specs.Opcodes.{op_pow}
@@ -29,15 +30,11 @@ pub equal_is_same : (a b : U32TableEntry) {equal : Bool}
 unfolding same_key
 equal_is_same a b e = e
 
-both_true : (a b : Bool) → (a && b) ≡ true → (a ≡ true) × (b ≡ true)
-both_true true b h = (refl, h)
-both_true false b h = absurd (let z : ◌≡◌ {A = ℕ} 0 1 = cc in omega arith)
-
 pub same_key_equal : (a b : U32TableEntry) → same_key a b ≡ true → a ≡ b
 unfolding same_key
 same_key_equal a b h =
-    let o = both_true (eqb a.opcode b.opcode) _ h in
-    let q = both_true (eqb (lhs a) (lhs b)) _ o.1 in
+    let o = and_parts (eqb a.opcode b.opcode) _ h in
+    let q = and_parts (eqb (lhs a) (lhs b)) _ o.1 in
     let e = eqb-true a.opcode b.opcode o.0 in
     let f = eqb-true (lhs a) (lhs b) q.0 in
     let g = eqb-true (rhs a) (rhs b) q.1 in

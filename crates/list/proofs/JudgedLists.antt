@@ -8,7 +8,7 @@
 -- Assumes nothing.
 use Prim.Native.Nat.{ℕ, zero, suc, ◌+◌, ◌*◌, ◌-◌, ◌≤◌, ◌<◌}
 use mathlib.Core.Path.{◌≡◌, refl, sym, ap, ◌∙◌}
-use mathlib.Core.Bool.{Bool, true, false, not, ◌||◌}
+use mathlib.Core.Bool.{Bool, true, false, not}
 use mathlib.Core.List.{List, [], ◌∷◌, ◌++◌}
 use mathlib.Core.Logic.{⊎_elim}
 use native.Mathlib.Nat.{add_assoc, add-zero, zero-add, le_refl, eq-or-lt_of_le}
@@ -16,6 +16,7 @@ use native.Mathlib.Omega.{arith}
 use lib.Dec.{eqb, ltb}
 use lib.ListN.{length}
 use borrow.Author.Tests.{ltb-true, ltb-false, eqb-true, not-false, lt-ltb, le-ltb, eq-eqb}
+use Rattle.std.proofs.lemmas.Bool.{or_parts}
 use Rattle.field.specs.Elements.{p}
 use Rattle.words.specs.Limits.{max_places, multiplicity_limit}
 use Rattle.words.specs.Refusals.{first_reason, Judgement, Fine, Declined}
@@ -40,16 +41,12 @@ pub record Shaped (l : U32List) : Type 0 where
   pub keys : length l.keys ≡ entry_width * capacity l
   pub multiplicities : length l.multiplicities ≡ capacity l
 
-either_false : (a b : Bool) → (a || b) ≡ false → (a ≡ false) × (b ≡ false)
-either_false true b h = absurd (let z : ◌≡◌ {A = ℕ} 0 1 = cc in omega arith)
-either_false false b h = (refl, h)
-
 pub shaped : (l : U32List) → list_shape l ≡ Fine → Shaped l
 unfolding list_shape
 shaped l e =
-    let a = either_false (ltb max_places (capacity l)) _ (decline_fine _ Shape e) in
-    let b = either_false (ltb (capacity l) (used l)) _ a.1 in
-    let d = either_false (not (eqb (length l.keys) (entry_width * capacity l))) _ b.1 in
+    let a = or_parts (ltb max_places (capacity l)) _ (decline_fine _ Shape e) in
+    let b = or_parts (ltb (capacity l) (used l)) _ a.1 in
+    let d = or_parts (not (eqb (length l.keys) (entry_width * capacity l))) _ b.1 in
     record {
       small = ltb-false max_places (capacity l) a.0;
       within = ltb-false (capacity l) (used l) b.0;

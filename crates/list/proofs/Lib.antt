@@ -6,3 +6,4 @@ pub mod CountedStores
 pub mod HeldLists
 pub mod Alike
 pub mod HeldAlike
+pub mod Cleared

@@ -1,10 +1,10 @@
 -- Lists (document 01, "Recording and stored lists" and "Reasons to decline"): what a list is, and when it is admitted.
-use Rattle.std.specs.Prelude.{ℕ, ◌+◌, ◌*◌, Bool, true, false, not, ◌||◌, List, eqb, ltb, length, get_or}
+use Rattle.std.specs.Prelude.{ℕ, ◌*◌, Bool, true, false, not, ◌||◌, List, eqb, ltb, length, get_or}
 use Rattle.words.specs.Limits.{max_places, multiplicity_limit}
 use Rattle.words.specs.Refusals.{decline_if, or_else, first_reason, Judgement}
 use Rattle.words.specs.declared.Refusal.TheVariants.{Shape, CountFull}
 use Rattle.isa.specs.declared.U32TableEntry.{U32TableEntry}
-use Rattle.isa.specs.Entries.{entry, entry_width, judge_entry, admit_stored, admitted}
+use Rattle.isa.specs.Entries.{entry_in, entry_width, judge_entry, admit_stored, admitted}
 use Rattle.list.specs.declared.Sizes.{Sizes}
 
 -- "A list is sizes, then two parallel arrays: keys (three words each) and multiplicities."
@@ -25,8 +25,7 @@ used l = l.sizes.used
 
 -- the three words at place i
 unfoldable pub key_at : U32List → ℕ → U32TableEntry
-key_at l i =
-    entry (get_or l.keys (entry_width * i) 0) (get_or l.keys (entry_width * i + 1) 0) (get_or l.keys (entry_width * i + 2) 0)
+key_at l i = entry_in l.keys i
 
 unfoldable pub multiplicity_at : U32List → ℕ → ℕ
 multiplicity_at l i = get_or l.multiplicities i 0

@@ -82,12 +82,7 @@ pub fn key_at(keys: &[u64], i: usize) -> U32TableEntry
     requires { entry_width * i + 2 < length keys.now }
     ensures { (s : Sizes) (ms : List ℕ) → result ≡ key_at (u32_list s keys.now ms) i }
 {
-    let at = U32TableEntry::WIDTH * i;
-    U32TableEntry {
-        opcode: keys[at],
-        left_operand: keys[at + 1],
-        right_operand: keys[at + 2],
-    }
+    U32TableEntry::at(keys, i)
 }
 
 // The entry at place i, as admission hands it back.
@@ -309,12 +304,12 @@ impl LentList<'_> {
     }
 }
 
-// Places `from` to `to` − 1 of an array that has a word a place become 0.
+// Places `from` to `to` − 1 of an array become 0, those that it has.
 pub fn clear_places(counts: &mut [u64], from: usize, to: usize)
-    requires { to ≤ length counts.old }
     ensures { counts.new ≡ sets counts.old from (replicate (to - from) 0) }
 {
-    if from < to {
-        counts[from..to].fill(0);
+    let end = to.min(counts.len());
+    if from < end {
+        counts[from..end].fill(0);
     }
 }

@@ -3,8 +3,8 @@
 -- bytes apart.
 use mathlib.Core.Path.{◌≡◌, refl, sym, ap, ◌∙◌}
 use mathlib.Core.List.{List, ◌++◌, flat_map}
-use Prim.Native.Nat.{ℕ, suc, ◌+◌, ◌*◌, ◌^◌, ◌≤◌, ◌<◌}
-use native.Mathlib.Nat.{zero-add, add-zero, add_assoc, mul-zero, mul-suc, mul-le-mul_left}
+use Prim.Native.Nat.{ℕ, ◌+◌, ◌*◌, ◌^◌, ◌≤◌, ◌<◌}
+use native.Mathlib.Nat.{zero-add, add-zero, add_assoc, mul-zero}
 use borrow.Author.Tests.{eq-eqb, ne_eqb}
 use native.Mathlib.Omega.{arith}
 use lib.ListN.{length, get_or, take, drop, length-append}
@@ -13,7 +13,7 @@ use Rattle.words.specs.LittleEndian.{le_at, le}
 use Rattle.words.specs.Places.{places}
 use Rattle.words.proofs.LittleEndian.{length_le, le_at_same, le_at_left, le_at_right, le_at_le, le_le_at}
 use Rattle.words.proofs.Sets.{sets_then}
-use Rattle.words.proofs.Places.{length_places, length_flat, get_d_flat, flat_parts}
+use Rattle.words.proofs.Places.{block_end, length_places, length_flat, get_d_flat, flat_parts}
 use Rattle.isa.specs.declared.U32TableEntry.{U32TableEntry}
 use Rattle.isa.specs.Entries.{lhs, rhs}
 use Rattle.isa.proofs.Comparing.{entries_same}
@@ -157,6 +157,9 @@ pub width_other : (s : List ℕ) → (length s ≡ old_length (stored_n s) → �
 unfolding width_of
 width_other s f = rw (ne_eqb (length s) (old_length (stored_n s)) f)
 
+pub width_not_old : (s : List ℕ) → (width_of s ≡ old_multiplicity_width → ⊥) → width_of s ≡ multiplicity_width
+width_not_old s f = width_other s (λ e. f (width_old s e))
+
 pub width_new : (s : List ℕ) → length s ≡ stored_length (stored_n s) → 0 < stored_n s → width_of s ≡ multiplicity_width
 width_new s e p = width_other s (λ f. omega arith)
 
@@ -173,13 +176,6 @@ holds_multiplicity f m n h i p q r =
     ∙ in_counts multiplicity_width f m n h i q r
 
 -- ---- bytes are the form of what they hold
-
--- block j of n blocks ends within them
-block_end : (w j n : ℕ) → j < 0 + n → w * j + w ≤ w * n
-block_end w j n q =
-    let l : suc j ≤ n = omega arith in
-    let m : w * suc j ≤ w * n = mul-le-mul_left w l in
-    omega (arith, mul-suc w j)
 
 module _ (s : List ℕ) (b : (j : ℕ) → get_or s j 0 < 256) where
   key_part : (j : ℕ) → keys_end j + key_width ≤ length s → key_bytes (stored_entry s j) ≡ take key_width (drop (keys_end j) s)
@@ -219,7 +215,7 @@ module _ (s : List ℕ) (b : (j : ℕ) → get_or s j 0 < 256) where
       = flat_parts s head_width key_width (λ i. key_bytes (stored_entry s i)) 0 n (λ j p q. key_part j (omega arith)) in
       let C : counts_form w (stored_multiplicity s) n ≡ take (w * n) (drop (keys_end n) s)
       = flat_parts s (keys_end n) w (λ i. le w (stored_multiplicity s i)) 0 n
-      (λ j p q. rw (← en) (le_le_at s b w (keys_end n + w * j) (omega (arith, block_end w j n q))))
+      (λ j p q. rw (← en) (le_le_at s b w (keys_end n + w * j) (omega (arith, block_end w j n (omega arith)))))
       ∙ rw (mul-zero, add-zero) in
       let A : le n_width n ≡ take n_width s = ap (le n_width) en ∙ le_le_at s b n_width 0 (omega arith) in
       let H : le height_width h ≡ take height_width (drop n_width s) = ap (le height_width) eh ∙ le_le_at s b height_width n_width (omega arith) in

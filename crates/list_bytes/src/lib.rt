@@ -52,47 +52,58 @@ pub fn stored_height(bytes: &[u8]) -> u64
     words::half_at(bytes, N_WIDTH)
 }
 
-// The entry at place i of the bytes.
-#[tactic(auto, unfolding(crate::specs::Packed::stored_entry))]
-fn stored_entry(bytes: &[u8], i: usize) -> U32TableEntry
-    requires { (i < max_places) × (keys_end (i + 1) ≤ length bytes.now) }
-    ensures { result ≡ stored_entry bytes.now i }
-{
-    let at = HEAD_WIDTH + KEY_WIDTH * i;
-    U32TableEntry {
-        opcode: words::byte_at(bytes, at),
-        left_operand: words::word_at(bytes, at + OPCODE_WIDTH),
-        right_operand: words::word_at(bytes, at + OPCODE_WIDTH + OPERAND_WIDTH),
+// Bytes that hold n entries, each with a multiplicity of so many bytes.
+#[derive(Clone, Copy)]
+pub struct StoredList<'a> {
+    pub bytes: &'a [u8],
+    pub n: usize,
+    pub width: usize,
+    pub ghost whole: { (n ≡ stored_n bytes.now) × (n ≤ max_places) × (width ≡ width_of bytes.now) × (length_with width n ≤ length bytes.now) },
+}
+
+impl StoredList<'_> {
+    // The entry at place i.
+    #[tactic(auto, unfolding(crate::specs::Packed::stored_entry))]
+    fn entry(&self, i: usize) -> U32TableEntry
+        requires { i < self.now.n }
+        ensures { result ≡ stored_entry self.now.bytes.now i }
+    {
+        let at = HEAD_WIDTH + KEY_WIDTH * i;
+        U32TableEntry {
+            opcode: words::byte_at(self.bytes, at),
+            left_operand: words::word_at(self.bytes, at + OPCODE_WIDTH),
+            right_operand: words::word_at(self.bytes, at + OPCODE_WIDTH + OPERAND_WIDTH),
+        }
+    }
+
+    // The multiplicity at place i.
+    fn multiplicity(&self, i: usize) -> u64
+        requires { i < self.now.n }
+        ensures { result ≡ stored_multiplicity self.now.bytes.now i }
+    {
+        let at = HEAD_WIDTH + KEY_WIDTH * self.n;
+        if self.width == OLD_MULTIPLICITY_WIDTH {
+            words::half_at(self.bytes, at + OLD_MULTIPLICITY_WIDTH * i)
+        } else {
+            words::word_at(self.bytes, at + MULTIPLICITY_WIDTH * i)
+        }
+    }
+
+    // Stores what the bytes hold in the first n places.
+    pub fn unpack(&self, keys: &mut [u64], multiplicities: &mut [u64])
+        requires n_in_bounds { (entry_width * self.now.n ≤ length keys.old) × (self.now.n ≤ length multiplicities.old) }
+        ensures keys_after { keys.new ≡ sets keys.old 0 (flat_map (λ i. entry_words (stored_entry self.now.bytes.now i)) (places self.now.n)) }
+        ensures multiplicities_after { multiplicities.new ≡ sets multiplicities.old 0 (map (stored_multiplicity self.now.bytes.now) (places self.now.n)) }
+    {
+        for i in 0..self.n {
+            list::put_key(keys, i, self.entry(i));
+            multiplicities[i] = self.multiplicity(i);
+        }
     }
 }
 
-// The multiplicity at place i of the bytes, which hold n entries: of four bytes where the length is that of an old list, else of eight.
-fn stored_multiplicity(bytes: &[u8], n: usize, i: usize) -> u64
-    requires { (n ≡ stored_n bytes.now) × (n ≤ max_places) × (i < n) × (length_with (width_of bytes.now) n ≤ length bytes.now) }
-    ensures { result ≡ stored_multiplicity bytes.now i }
-{
-    let at = HEAD_WIDTH + KEY_WIDTH * n;
-    if bytes.len() == at + OLD_MULTIPLICITY_WIDTH * n {
-        words::half_at(bytes, at + OLD_MULTIPLICITY_WIDTH * i)
-    } else {
-        words::word_at(bytes, at + MULTIPLICITY_WIDTH * i)
-    }
-}
-
-// Stores what the bytes hold in the first n places.
-pub fn unpack(bytes: &[u8], n: usize, keys: &mut [u64], multiplicities: &mut [u64])
-    requires n_value { (n ≡ stored_n bytes.now) × (n ≤ max_places) × (length_with (width_of bytes.now) n ≤ length bytes.now) }
-    requires n_in_bounds { (entry_width * n ≤ length keys.old) × (n ≤ length multiplicities.old) }
-    ensures keys_after { keys.new ≡ sets keys.old 0 (flat_map (λ i. entry_words (stored_entry bytes.now i)) (places n)) }
-    ensures multiplicities_after { multiplicities.new ≡ sets multiplicities.old 0 (map (stored_multiplicity bytes.now) (places n)) }
-{
-    for i in 0..n {
-        list::put_key(keys, i, stored_entry(bytes, i));
-        multiplicities[i] = stored_multiplicity(bytes, n, i);
-    }
-}
-
-// Stores the bytes of an entry from place `at` on. Here and below the lent bytes are written at places: nothing here allocates.
+// Stores the bytes of an entry from place `at` on.
+// Here and below the bytes are lent with a place and by no cursor: each place is known from the number of entries, and no call answers the next.
 fn put_entry(out: &mut [u8], at: usize, e: U32TableEntry)
     requires { at + key_width ≤ length out.old }
     ensures { out.new ≡ sets out.old at (key_bytes e) }

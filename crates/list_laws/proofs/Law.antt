@@ -15,7 +15,7 @@ use Rattle.list_laws.proofs.Carried.{Carried, calls_carry}
 abbrev pub Lawful : View → List U32TableEntry → Type 0
 Lawful v es = Distinct v × Tallied v es
 
-lawful_carried : Carried Lawful
+pub lawful_carried : Carried Lawful
 lawful_carried = record {
   counted = λ a b i g es m r s. (changed_distinct r s.0, tally_counted s.0 s.1 r);
   kept = λ a b i g es r s. (changed_distinct r s.0, tally_kept s.1 r);

@@ -1,7 +1,7 @@
 -- A hold's end: `drop_reason` and `confirm_reason` in each of their cases, and what it tells that nothing speaks against a drop (drop_told,
--- drop_room). Assumes nothing.
+-- drop_room). Neither call changes the sizes (confirm_sizes, drop_sizes). Assumes nothing.
 use Prim.Native.Nat.{ℕ, ◌+◌, ◌<◌}
-use mathlib.Core.Path.{◌≡◌, ◌∙◌}
+use mathlib.Core.Path.{◌≡◌, refl, ◌∙◌}
 use mathlib.Core.Bool.{true, false, not, and-eq-true_iff}
 use mathlib.Core.Logic.{◌≢◌}
 use native.Mathlib.Omega.{arith}
@@ -11,11 +11,12 @@ use borrow.Author.Tests.{ltb-true, eqb-false, not-true}
 use Rattle.words.specs.Refusals.{Fine, Declined}
 use Rattle.words.specs.declared.Refusal.{Refusal}
 use Rattle.words.specs.declared.Refusal.TheVariants.{CountFull, NoHold}
+use Rattle.words.proofs.Outcomes.{outcome_keeps}
 use Rattle.words.proofs.Judgements.{decline_true, decline_false, decline_not_fine, or_next, or_first, or_both}
 use Rattle.list.specs.Lists.{used, multiplicity_at, count_full}
 use Rattle.list.specs.Holds.{HeldList, hold_at, held_shape}
 use Rattle.list.proofs.HeldLists.{held_shaped}
-use Rattle.list_record.specs.Holding.{drop_reason, confirm_reason}
+use Rattle.list_record.specs.Holding.{drop_reason, drop_all, confirm_reason, confirm_all}
 
 -- ---- the cases
 
@@ -57,3 +58,13 @@ module _ (h : HeldList) (i : ℕ) where
         omega (arith, s.list.within, s.holds),
         omega arith,
       )
+
+-- ---- the sizes afterwards
+
+pub confirm_sizes : (h : HeldList) (i : ℕ) → (confirm_all h i).left.list.sizes ≡ h.list.sizes
+unfolding confirm_all
+confirm_sizes h i = outcome_keeps (λ (l : HeldList). l.list.sizes) (confirm_reason h i) _ h _ refl
+
+pub drop_sizes : (h : HeldList) (i : ℕ) → (drop_all h i).left.list.sizes ≡ h.list.sizes
+unfolding drop_all
+drop_sizes h i = outcome_keeps (λ (l : HeldList). l.list.sizes) (drop_reason h i) _ h _ refl

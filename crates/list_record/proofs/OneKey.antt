@@ -84,9 +84,9 @@ module _ (count hold : ℕ) where
       word k q = get_d_sets_in (entry_words e) h.list.keys (entry_width * used h.list) k 0 q (omega (arith, s.keys))
 
   module _ (h : HeldList) (e : U32TableEntry) (fine : record_reason h e ≡ Fine) where
-    left_is : (record_with count hold h e).left ≡ recorded_into count hold h (admitted e)
+    pub recorded_left : (record_with count hold h e).left ≡ recorded_into count hold h (admitted e)
     unfolding record_with
-    left_is = ap (λ (o : Outcome HeldList). o.left) (outcome_fine _ _ _ fine)
+    recorded_left = ap (λ (o : Outcome HeldList). o.left) (outcome_fine _ _ _ fine)
 
     pub new_key_reduced : known h (admitted e) ≡ false
         → (key_at (record_with count hold h e).left.list (used h.list) ≡ admitted e) × (admitted (admitted e) ≡ admitted e)
@@ -95,10 +95,10 @@ module _ (count hold : ℕ) where
         let a = or_both (held_shape h) _ fine in
         let b = or_both (judge_entry e) _ a.1 in
         let room = ltb-true (used h.list) (capacity h.list) (decline_not_fine _ ListFull (rw k at b.1)) in
-        (rw (left_is, k) (appended_key h (admitted e) (held_shaped h a.0).list room), admitted_again e b.0)
+        (rw (recorded_left, k) (appended_key h (admitted e) (held_shaped h a.0).list room), admitted_again e b.0)
 
     pub known_key_stays : known h (admitted e) ≡ true → (record_with count hold h e).left.list.keys ≡ h.list.keys
-    known_key_stays k = rw (left_is, k) refl
+    known_key_stays k = rw (recorded_left, k) refl
 
 -- ---- lists alike, with the same holds
 

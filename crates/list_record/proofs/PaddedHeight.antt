@@ -4,22 +4,15 @@
 -- library's next power of two (padded_next). Assumes nothing.
 use Prim.Native.Nat.{ℕ, zero, suc, ◌+◌, ◌*◌, ◌^◌, ◌≤◌, ◌<◌, max}
 use mathlib.Core.Path.{◌≡◌, refl, sym, subst, ◌∙◌}
-use mathlib.Core.Bool.{Bool, true, false}
 use mathlib.Core.Logic.{◌⊎◌, inl, inr, ⊎_elim}
 use native.Mathlib.Nat.{pow-succ', le_antisymm}
 use native.Mathlib.Omega.{arith}
-use lib.Dec.{ltb}
 use lib.Pow.{pow_mono}
-use borrow.Author.Tests.{ltb-true, ltb-false, lt-ltb, le-ltb}
+use borrow.Author.Tests.{lt-ltb, le-ltb}
 use Rattle.std.specs.Int.{IsNextPowerOfTwo}
+use Rattle.std.proofs.lemmas.Bool.{cases_lt}
 use Rattle.words.specs.Limits.{min_padded_height}
 use Rattle.list_record.specs.Plan.{doubled_to, padded_height}
-
-below_or_not : (a b : ℕ) → (a < b) ⊎ (b ≤ a)
-below_or_not a b = go (ltb a b) refl where
-  go : (t : Bool) → ltb a b ≡ t → (a < b) ⊎ (b ≤ a)
-  go true e = inl (ltb-true a b e)
-  go false e = inr (ltb-false a b e)
 
 -- ---- the doublings
 
@@ -35,7 +28,7 @@ doubled_power (suc n) j h =
     ⊎_elim
     (λ (l : 2 ^ j < h). ((doubled_power n (suc j) h).0, rw (lt-ltb (2 ^ j) h l, ← pow-succ' 2 j) (doubled_power n (suc j) h).1))
     (λ (l : h ≤ 2 ^ j). (j, doubled_stops (suc n) (2 ^ j) h l))
-    (below_or_not (2 ^ j) h)
+    (cases_lt (2 ^ j) h)
 
 doubled_at_least : (n q h : ℕ) → 1 ≤ q → h ≤ q + n → h ≤ doubled_to n q h
 doubled_at_least zero q h p a = omega arith
@@ -43,7 +36,7 @@ doubled_at_least (suc n) q h p a =
     ⊎_elim
     (λ (l : q < h). rw (lt-ltb q h l) (doubled_at_least n (2 * q) h (omega arith) (omega arith)))
     (λ (l : h ≤ q). rw (le-ltb q h l) l)
-    (below_or_not q h)
+    (cases_lt q h)
 
 doubled_from : (n q h : ℕ) → q ≤ doubled_to n q h
 doubled_from zero q h = omega arith
@@ -51,7 +44,7 @@ doubled_from (suc n) q h =
     ⊎_elim
     (λ (l : q < h). rw (lt-ltb q h l) (omega (arith, doubled_from n (2 * q) h)))
     (λ (l : h ≤ q). rw (le-ltb q h l) (omega arith))
-    (below_or_not q h)
+    (cases_lt q h)
 
 -- 256 is 2^8
 eight : (k : ℕ) → 256 ≤ 2 ^ k → 8 ≤ k
@@ -59,12 +52,12 @@ eight k m =
     ⊎_elim
     (λ (l : k < 8). let k7 : k ≤ 7 = omega arith in let top : 2 ^ k ≤ 2 ^ 7 = pow_mono k7 in absurd (omega arith))
     (λ (l : 8 ≤ k). l)
-    (below_or_not k 8)
+    (cases_lt k 8)
 
 -- 2^j < h ≤ 2^k leaves j < k
 exponents : (j k h : ℕ) → 2 ^ j < h → h ≤ 2 ^ k → suc j ≤ k
 exponents j k h a b =
-    ⊎_elim (λ (l : j < k). l) (λ (l : k ≤ j). absurd (omega (arith, pow_mono l))) (below_or_not j k)
+    ⊎_elim (λ (l : j < k). l) (λ (l : k ≤ j). absurd (omega (arith, pow_mono l))) (cases_lt j k)
 
 doubled_least : (n j k h : ℕ) → j ≤ k → h ≤ 2 ^ k → doubled_to n (2 ^ j) h ≤ 2 ^ k
 doubled_least zero j k h l b = pow_mono l
@@ -72,7 +65,7 @@ doubled_least (suc n) j k h l b =
     ⊎_elim
     (λ (g : 2 ^ j < h). rw (lt-ltb (2 ^ j) h g, ← pow-succ' 2 j) (doubled_least n (suc j) k h (exponents j k h g b) b))
     (λ (g : h ≤ 2 ^ j). rw (le-ltb (2 ^ j) h g) (pow_mono l))
-    (below_or_not (2 ^ j) h)
+    (cases_lt (2 ^ j) h)
 
 -- ---- the padded height
 
@@ -114,7 +107,7 @@ padded_unique h k b m least =
 -- ---- by the library's next power of two
 
 pub padded_next : (h p : ℕ) → IsNextPowerOfTwo h p → max p min_padded_height ≡ padded_height h
-padded_next h p (power, low, high) = go power.0 power.1 (below_or_not power.0 8) where
+padded_next h p (power, low, high) = go power.0 power.1 (cases_lt power.0 8) where
   go : (k : ℕ) → p ≡ 2 ^ k → (k < 8) ⊎ (8 ≤ k) → max p min_padded_height ≡ padded_height h
   go k e (inl l) =
       let k7 : k ≤ 7 = omega arith in
@@ -132,7 +125,7 @@ padded_next h p (power, low, high) = go power.0 power.1 (below_or_not power.0 8)
       (λ j a b. ⊎_elim
       (λ (s : j < suc k). let j_k : j ≤ k = omega arith in let under : 2 ^ j ≤ 2 ^ k = pow_mono j_k in absurd (omega (arith, e)))
       (λ (s : suc k ≤ j). pow_mono s)
-      (below_or_not j (suc k))))
+      (cases_lt j (suc k))))
 
 -- a power of two that is a word is at most 2^63
 pub power_word : (k : ℕ) → 2 ^ k < 2 ^ 64 → 2 ^ k ≤ 2 ^ 63
@@ -140,4 +133,4 @@ power_word k w =
     ⊎_elim
     (λ (l : k < 64). let k63 : k ≤ 63 = omega arith in pow_mono k63)
     (λ (l : 64 ≤ k). let large : 2 ^ 64 ≤ 2 ^ k = pow_mono l in absurd (omega arith))
-    (below_or_not k 64)
+    (cases_lt k 64)

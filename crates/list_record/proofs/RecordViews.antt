@@ -15,7 +15,7 @@ use Rattle.words.specs.Outcomes.{Outcome}
 use Rattle.words.specs.Refusals.{Fine}
 use Rattle.words.specs.declared.Refusal.TheVariants.{CountFull, ListFull}
 use Rattle.words.proofs.Judgements.{decline_fine, decline_not_fine, or_both}
-use Rattle.words.proofs.Outcomes.{outcome_fine, outcome_done}
+use Rattle.words.proofs.Outcomes.{outcome_done}
 use Rattle.isa.specs.declared.U32TableEntry.{U32TableEntry}
 use Rattle.isa.specs.Entries.{judge_as_it_is, judge_entry, admitted}
 use Rattle.isa.proofs.Entries.{admitted_again}
@@ -27,7 +27,7 @@ use Rattle.list.proofs.HeldLists.{HeldShaped, held_shaped, no_hold, closed}
 use Rattle.list_record.specs.Recording.{place_in, known, place_reason, record_reason, settled, appended, recorded_into, record_with}
 use Rattle.list_record.specs.Recording.{record_all, record_each}
 use Rattle.list_record.proofs.RecordEach.{number_of, each_first}
-use Rattle.list_record.proofs.OneKey.{found_known}
+use Rattle.list_record.proofs.OneKey.{found_known, recorded_left}
 use Rattle.list_record.proofs.Stores.{settled_entry, settled_count, settled_hold, settled_shaped}
 use Rattle.list_record.proofs.Stores.{appended_entry, appended_count, appended_hold, appended_shaped, new_entry}
 use Rattle.list_record.proofs.Views.{View, Changed, Appended, Recorded, EachPlace, recorded_each}
@@ -81,8 +81,7 @@ module _ (count hold : ℕ) (h : HeldList) (e : U32TableEntry) (z : number_of (r
       record { reason = q; shape = a.0; entry = b.0; place = b.1 }
 
   left_is : (record_with count hold h e).left ≡ recorded_into count hold h (admitted e)
-  unfolding record_with
-  left_is = ap (λ (o : Outcome HeldList). o.left) (outcome_fine _ _ _ accepted.reason)
+  left_is = recorded_left count hold h e accepted.reason
 
   has_room : known h (admitted e) ≡ false → used h.list < capacity h.list
   unfolding place_reason

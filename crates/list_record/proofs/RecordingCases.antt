@@ -113,6 +113,9 @@ place_fits h e = go (record_reason h e) refl where
       let b = or_both (judge_entry e) _ a.1 in
       room (held_shaped h a.0) (known h (admitted e)) refl b.1
 
+pub has_room : (h : HeldList) (e : U32TableEntry) {p : Placed} → p ≡ place_of h e → Fits h p
+has_room h e q = rw q (place_fits h e)
+
 -- ---- a recording keeps the shape
 
 stored_shaped : (count hold : ℕ) (h : HeldList) (p : Placed) → HeldShaped h → Fits h p → HeldShaped (stored_at count hold h p).left

@@ -2,8 +2,7 @@
 // multiplicities and its holds, one each a place.
 #![tactic(auto)]
 
-ghost use Rattle.std.specs.Prelude.{◌≡◌, ◌+◌, ◌*◌, ◌^◌, ◌≤◌, ◌<◌, [], ◌∷◌, length, Ok};
-ghost use Rattle.words.specs.Answers.{done};
+ghost use Rattle.std.specs.Prelude.{◌≡◌, ◌+◌, ◌*◌, ◌^◌, ◌≤◌, ◌<◌, length};
 ghost use Rattle.words.specs.Outcomes.{Leaves, completed_answer};
 ghost use Rattle.isa.specs.Entries.{entry_width};
 ghost use Rattle.list.specs.Holds.{held_list};
@@ -89,18 +88,23 @@ pub fn find_place(list: &LentList, entry: U32TableEntry) -> Result<Place, Refusa
 }
 
 // Stores at a place that was found, and answers where: the key there gains so many counts and holds, at most one of each, or the new key is appended
-// with them.
+// with them. A refusal stores nothing, and its reason is the answer.
 // The gains are two numbers and no enum: the definitions of recording and of holding are one rule of two numbers.
-pub fn store(list: &mut LentListMut, place: Place, count: u64, hold: u64) -> usize
-    requires { (count ≤ 1) × (hold ≤ 1) × Fits (held_in_mut list.old) (Ok place) }
-    ensures outcome { Leaves (stored_at count hold (held_in_mut list.old) (Ok place)) (done (result ∷ [])) (held_in_mut list.new) }
+pub fn store(
+    list: &mut LentListMut,
+    place: Result<Place, Refusal>,
+    count: u64,
+    hold: u64,
+) -> Result<usize, Refusal>
+    requires { (count ≤ 1) × (hold ≤ 1) × Fits (held_in_mut list.old) place }
+    ensures outcome { Leaves (stored_at count hold (held_in_mut list.old) place) (recorded_answer result) (held_in_mut list.new) }
     ensures same_arrays { SameArrays list.old list.new }
 {
-    match place {
+    match place? {
         Place::Known(at) => {
             list.multiplicities[at] += count;
             list.holds[at] += hold;
-            at
+            Ok(at)
         }
         Place::New(key) => {
             let used = list.sizes.used;
@@ -108,7 +112,7 @@ pub fn store(list: &mut LentListMut, place: Place, count: u64, hold: u64) -> usi
             list.multiplicities[used] = count;
             list.holds[used] = hold;
             list.sizes.used += 1;
-            used
+            Ok(used)
         }
     }
 }
@@ -124,8 +128,8 @@ fn record_with(
     ensures outcome { Leaves (record_with count hold (held_in_mut list.old) entry) (recorded_answer result) (held_in_mut list.new) }
     ensures same_arrays { SameArrays list.old list.new }
 {
-    let place = find_place(&list.view(), entry)?;
-    Ok(store(list, place, count, hold))
+    let place = find_place(&list.view(), entry);
+    store(list, place, count, hold)
 }
 
 // The first equal key gains one; else the key is appended with 1. The answer is its place.

@@ -1,22 +1,16 @@
 -- Equal keys: `repeats` finds two of them exactly where there are two, at an earlier and at a later place.
 use mathlib.Core.Path.{◌≡◌, refl, sym, ◌∙◌}
-use mathlib.Core.Bool.{Bool, true, false, ◌||◌}
+use mathlib.Core.Bool.{Bool, true, false, or-true}
 use mathlib.Core.List.{map}
 use mathlib.Core.Logic.{⊎_elim}
 use Prim.Native.Nat.{ℕ, zero, suc, ◌+◌, ◌≤◌, ◌<◌}
 use native.Mathlib.Nat.{eq-or-lt_of_le}
 use native.Mathlib.Omega.{arith}
+use Rattle.std.proofs.lemmas.Bool.{or_from}
 use Rattle.words.specs.Places.{places_from, places}
 use Rattle.isa.specs.declared.U32TableEntry.{U32TableEntry}
 use Rattle.list.specs.Keys.{same_key}
 use Rattle.list_repeats.specs.Repeats.{occurs, repeats}
-
-pub or-true : (a : Bool) → a || true ≡ true
-or-true true = refl
-or-true false = refl
-
-or_false : (a b : Bool) → a ≡ false → b ≡ false → a || b ≡ false
-or_false a b p q = rw (p, q)
 
 module _ (f : ℕ → U32TableEntry) where
   occurs_hit : (e : U32TableEntry) (i n j : ℕ) → i ≤ j → j < i + n → same_key e (f j) ≡ true → occurs e (map f (places_from i n)) ≡ true
@@ -31,7 +25,7 @@ module _ (f : ℕ → U32TableEntry) where
   unfolding occurs places_from
   occurs_miss e i zero h = refl
   occurs_miss e i (suc n) h =
-      or_false _ _ (h i (omega arith) (omega arith)) (occurs_miss e (suc i) n (λ j p q. h j (omega arith) (omega arith)))
+      or_from _ _ (h i (omega arith) (omega arith)) (occurs_miss e (suc i) n (λ j p q. h j (omega arith) (omega arith)))
 
   repeats_hit : (k n i j : ℕ) → k ≤ i → i < j → j < k + n → same_key (f i) (f j) ≡ true → repeats (map f (places_from k n)) ≡ true
   unfolding repeats places_from
@@ -45,7 +39,7 @@ module _ (f : ℕ → U32TableEntry) where
   unfolding repeats places_from
   repeats_miss k zero h = refl
   repeats_miss k (suc n) h =
-      or_false _ _ (occurs_miss (f k) (suc k) n (λ j p q. h k j (omega arith) (omega arith) (omega arith)))
+      or_from _ _ (occurs_miss (f k) (suc k) n (λ j p q. h k j (omega arith) (omega arith) (omega arith)))
       (repeats_miss (suc k) n (λ i j p q r. h i j (omega arith) q (omega arith)))
 
   -- an equal key at an earlier place

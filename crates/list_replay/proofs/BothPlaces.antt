@@ -15,6 +15,7 @@ use Rattle.words.specs.Outcomes.{Outcome, Leaves}
 use Rattle.words.specs.Refusals.{Judgement, Fine, Declined}
 use Rattle.words.specs.declared.Refusal.{Refusal}
 use Rattle.words.specs.declared.Refusal.TheVariants.{ListFull}
+use Rattle.words.proofs.Answers.{declined_not_done}
 use Rattle.isa.specs.declared.U32TableEntry.{U32TableEntry}
 use Rattle.isa.specs.Entries.{judge_entry, admitted}
 use Rattle.isa.proofs.Entries.{opcode_admitted}
@@ -194,6 +195,11 @@ both_places l e f d = go (record_reason l e) refl where
 stored_number : (l : HeldList) (p : Place) → number_of (stored_at 1 0 l (Ok p)) ≡ 0
 stored_number l (Known i) = refl
 stored_number l (New e) = refl
+
+-- a place that is no refusal answers no reason
+pub stored_refuses_not : (l : HeldList) (p : Place) (k : Refusal) → declined k ≡ (stored_at 1 0 l (Ok p)).answer → ⊥
+stored_refuses_not l (Known i) k e = declined_not_done k e
+stored_refuses_not l (New e) k q = declined_not_done k q
 
 fits_as : {h m : HeldList} {p q : Placed} → h ≡ m → p ≡ q → Fits m q → Fits h p
 fits_as a b fits = rw (a, b) fits

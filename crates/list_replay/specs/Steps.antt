@@ -3,11 +3,11 @@ use Rattle.std.specs.Prelude.{◌≡◌, ℕ, ◌+◌, ◌*◌, ◌/◌, ◌%◌
 use Rattle.field.specs.Elements.{p}
 use Rattle.words.specs.declared.Refusal.{Refusal}
 use Rattle.words.specs.declared.Refusal.TheVariants.{Stranger, Wide, ZeroDivisor}
-use Rattle.isa.specs.Opcodes.{op_split, op_lt, op_log2_floor, op_and, op_pop_count, op_pow, op_div_mod, op_xor, op_merkle_step, op_merkle_step_mem, is_opcode}
+use Rattle.isa.specs.Opcodes.{op_split, op_lt, op_log2_floor, op_and, op_pop_count, op_pow, op_div_mod, op_xor, op_merkle_step, op_merkle_step_mem, is_opcode, opcode_number}
 use Rattle.isa.specs.Entries.{entry, rhs_limit}
 use Rattle.isa.specs.declared.U32TableEntry.{U32TableEntry}
 use Rattle.list_replay.specs.declared.Instruction.{Instruction}
-use Rattle.list_replay.specs.declared.Instruction.TheVariants.{Split, Lt, Log2Floor, And, DivMod, Xor, PopCount, Pow, MerkleStep, MerkleStepMem}
+use Rattle.list_replay.specs.declared.Instruction.TheVariants.{Plain, DivMod, Xor, MerkleStep, MerkleStepMem}
 use Rattle.list_replay.specs.declared.Step.{Step}
 use Rattle.list_replay.specs.declared.StepEntries.{StepEntries}
 use Rattle.list_replay.specs.declared.StepEntries.TheVariants.{One, Two}
@@ -17,14 +17,9 @@ unfoldable pub is_instruction : ℕ → Bool
 is_instruction o = is_opcode o || (eqb o op_div_mod || (eqb o op_xor || (eqb o op_merkle_step || eqb o op_merkle_step_mem)))
 
 abbrev pub instruction_number : Instruction → ℕ
-instruction_number Split = op_split
-instruction_number Lt = op_lt
-instruction_number Log2Floor = op_log2_floor
-instruction_number And = op_and
+instruction_number (Plain opcode) = opcode_number opcode
 instruction_number DivMod = op_div_mod
 instruction_number Xor = op_xor
-instruction_number PopCount = op_pop_count
-instruction_number Pow = op_pow
 instruction_number MerkleStep = op_merkle_step
 instruction_number MerkleStepMem = op_merkle_step_mem
 

@@ -3,6 +3,9 @@
 
 ghost use Rattle.std.specs.Prelude.{◌≡◌, ◌≢◌, ◌+◌, ◌*◌, ◌<◌, [], ◌∷◌, length, Ok};
 ghost use Rattle.words.specs.Outcomes.{Leaves, completed_answer};
+ghost use Rattle.isa.specs.Entries.{entry};
+ghost use Rattle.isa.specs.Opcodes.{opcode_number};
+ghost use Rattle.list_replay.specs.declared.StepEntries.TheVariants.{One};
 ghost use Rattle.list.specs.Lent.{held_in_mut, SameArrays};
 ghost use Rattle.list_replay.specs.Steps.{Names, step_width, step_at, split_step, div_mod_step, merkle_step, step_entries};
 ghost use Rattle.list_replay.specs.Replay.{record_together, step_all, replay_all, replayed_answer};
@@ -18,19 +21,14 @@ use words::Refusal;
 // The words of a step.
 pub const STEP_WIDTH: usize = 3;
 
-// The instructions that a trace names, each with its number.
+// The instructions that a trace names: the six of the table, and four more.
 #[derive(Clone, Copy, PartialEq, Eq, Debug)]
 pub enum Instruction {
-    Split = 4,
-    Lt = 6,
-    Log2Floor = 12,
-    And = 14,
-    DivMod = 20,
-    Xor = 22,
-    PopCount = 28,
-    Pow = 30,
-    MerkleStep = 36,
-    MerkleStepMem = 44,
+    Plain(Opcode),
+    DivMod,
+    Xor,
+    MerkleStep,
+    MerkleStepMem,
 }
 
 impl TryFrom<u64> for Instruction {
@@ -43,17 +41,11 @@ impl TryFrom<u64> for Instruction {
         ensures { Names word result }
     {
         match word {
-            4 => Ok(Instruction::Split),
-            6 => Ok(Instruction::Lt),
-            12 => Ok(Instruction::Log2Floor),
-            14 => Ok(Instruction::And),
             20 => Ok(Instruction::DivMod),
             22 => Ok(Instruction::Xor),
-            28 => Ok(Instruction::PopCount),
-            30 => Ok(Instruction::Pow),
             36 => Ok(Instruction::MerkleStep),
             44 => Ok(Instruction::MerkleStepMem),
-            _ => Err(Refusal::Stranger),
+            _ => Ok(Instruction::Plain(Opcode::try_from(word)?)),
         }
     }
 }
@@ -135,6 +127,28 @@ fn merkle_step(index: u64) -> Result<StepEntries, Refusal>
     }
 }
 
+// The entry of one of the six, with a second value or with 0.
+fn one(opcode: Opcode, first: u64, second: u64) -> Result<StepEntries, Refusal>
+    ensures { result ≡ Ok (One (entry (opcode_number opcode) first second)) }
+{
+    Ok(StepEntries::One(U32TableEntry::new(opcode as u64, first, second)))
+}
+
+// What a step of one of the six records.
+#[tactic(auto, unfolding(crate::specs::Steps::step_entries))]
+fn plain_step(opcode: Opcode, first: u64, second: u64) -> Result<StepEntries, Refusal>
+    ensures { result ≡ step_entries (record { opcode = opcode_number opcode; first = first; second = second }) }
+{
+    match opcode {
+        Opcode::Split => split_step(first),
+        Opcode::Log2Floor => one(opcode, first, 0),
+        Opcode::PopCount => one(opcode, first, 0),
+        Opcode::Lt => one(opcode, first, second),
+        Opcode::And => one(opcode, first, second),
+        Opcode::Pow => one(opcode, first, second),
+    }
+}
+
 // What a step records. Whether the entry of one of the six is admitted, recording decides.
 pub fn step_entries(step: Step) -> Result<StepEntries, Refusal>
     ensures { result ≡ step_entries step }
@@ -145,17 +159,8 @@ pub fn step_entries(step: Step) -> Result<StepEntries, Refusal>
         second,
     } = step;
     match Instruction::try_from(opcode)? {
-        Instruction::Split => split_step(first),
-        Instruction::Log2Floor => Ok(StepEntries::One(U32TableEntry::new(opcode, first, 0))),
-        Instruction::PopCount => Ok(StepEntries::One(U32TableEntry::new(opcode, first, 0))),
-        Instruction::Lt => Ok(StepEntries::One(U32TableEntry::new(opcode, first, second))),
-        Instruction::And => Ok(StepEntries::One(U32TableEntry::new(opcode, first, second))),
-        Instruction::Pow => Ok(StepEntries::One(U32TableEntry::new(opcode, first, second))),
-        Instruction::Xor => Ok(StepEntries::One(U32TableEntry::new(
-            Opcode::And as u64,
-            first,
-            second,
-        ))),
+        Instruction::Plain(plain) => plain_step(plain, first, second),
+        Instruction::Xor => one(Opcode::And, first, second),
         Instruction::DivMod => div_mod_step(first, second),
         Instruction::MerkleStep => merkle_step(first),
         Instruction::MerkleStepMem => merkle_step(first),
@@ -187,8 +192,8 @@ fn record_both(list: &mut LentListMut, e: U32TableEntry, f: U32TableEntry) -> Re
     let first = list_record::find_place(&list.view(), e)?;
     let ahead = list_record::find_place(&list.view(), f)?;
     let second = second_place(list.sizes, first, ahead)?;
-    list_record::store(list, first, 1, 0);
-    list_record::store(list, second, 1, 0);
+    list_record::store(list, Ok(first), 1, 0)?;
+    list_record::store(list, Ok(second), 1, 0)?;
     Ok(())
 }
 

@@ -2,14 +2,16 @@
 // the other's: it does to its own what the call alone does, and at the places that have come into use the other has no count and no hold.
 #![tactic(auto)]
 
-ghost use Rattle.std.specs.Prelude.{◌≡◌, ◌&&◌, ◌-◌, eqb, length, replicate};
-ghost use Rattle.std.proofs.lemmas.List.Edits.{sets};
-ghost use Rattle.words.specs.Outcomes.{Leaves};
+ghost use Rattle.std.specs.Prelude.{◌≡◌, ◌&&◌, eqb, length};
+ghost use Rattle.std.specs.Fn.{FnOnceReturnsAtMut};
+ghost use Rattle.words.specs.Answers.{Answer};
+ghost use Rattle.words.specs.Outcomes.{Outcome, Leaves};
+ghost use Rattle.list.specs.Holds.{HeldList};
 ghost use Rattle.list.specs.Lent.{held_in_mut, SameArrays};
 ghost use Rattle.list_record.specs.Recording.{recorded_answer};
 ghost use Rattle.list_replay.specs.Replay.{replayed_answer};
 ghost use Rattle.list_stored.specs.Stored.{read_answer};
-ghost use Rattle.list_shared.specs.Shared.{cleared, record_shared, hold_shared, replay_shared, read_shared};
+ghost use Rattle.list_shared.specs.Shared.{cleared, beside, record_shared, hold_shared, replay_shared, read_shared};
 ghost use Rattle.list_shared.specs.Lent.{counts_in, shared, SameCounts};
 
 use isa::U32TableEntry;
@@ -38,20 +40,38 @@ impl OtherCounts<'_> {
         ensures counts { counts_in self.new ≡ cleared from to (counts_in self.old) }
         ensures same_counts { SameCounts self.old self.new }
     {
-        clear(self.multiplicities, from, to);
-        clear(self.holds, from, to);
+        list::clear_places(self.multiplicities, from, to);
+        list::clear_places(self.holds, from, to);
     }
 }
 
-// Places `from` to `to` − 1 of an array become 0, those that it has.
-fn clear(counts: &mut [u64], from: usize, to: usize)
-    ensures { counts.new ≡ sets counts.old from (replicate (to - from) 0) }
+// A call of one of the two, with the other's arrays beside it: where these are of the wrong shape the answer is `wrong`, and nothing is changed. What is cleared
+// goes by the places, and not by the answer.
+fn call_beside<A: Drop, F: FnOnce(&mut LentListMut) -> A>(
+    list: &mut LentListMut,
+    other: &mut OtherCounts,
+    wrong: A,
+    call: F,
+) -> A
+    ghost due: { (A → Answer) × Outcome HeldList }
+    requires callable { F.IsAlwaysCallable call }
+    requires does { (r : A) (left : LentListMut) → FnOnceReturnsAtMut F.FnOnce call list.old r left
+        → Leaves due.1 (due.0 r) (held_in_mut left) × SameArrays list.old left }
+    ensures outcome { Leaves (beside (due.0 wrong) due.1 (held_in_mut list.old) (counts_in other.old)) (due.0 result) (shared (held_in_mut list.new) (counts_in other.new)) }
+    ensures same_arrays { SameArrays list.old list.new }
+    ensures same_counts { SameCounts other.old other.new }
 {
-    let end = to.min(counts.len());
-    list::clear_places(counts, from, end);
+    if !other.fits(list.sizes.capacity) {
+        return wrong;
+    }
+    let from = list.sizes.used;
+    let answer = call(list);
+    other.clear(from, list.sizes.used);
+    answer
 }
 
 // A recording by one of the two.
+#[tactic(auto, unfolding(crate::specs::Shared::record_shared))]
 pub fn record_shared(
     list: &mut LentListMut,
     other: &mut OtherCounts,
@@ -61,16 +81,16 @@ pub fn record_shared(
     ensures same_arrays { SameArrays list.old list.new }
     ensures same_counts { SameCounts other.old other.new }
 {
-    if !other.fits(list.sizes.capacity) {
-        return Err(Refusal::Shape);
-    }
-    let from = list.sizes.used;
-    let answer = list_record::record_u32_table_entry(list, entry);
-    other.clear(from, list.sizes.used);
-    answer
+    call_beside(
+        list,
+        other,
+        Err(Refusal::Shape),
+        |list| list_record::record_u32_table_entry(list, entry),
+    )
 }
 
 // A hold by one of the two.
+#[tactic(auto, unfolding(crate::specs::Shared::hold_shared))]
 pub fn hold_shared(
     list: &mut LentListMut,
     other: &mut OtherCounts,
@@ -80,16 +100,16 @@ pub fn hold_shared(
     ensures same_arrays { SameArrays list.old list.new }
     ensures same_counts { SameCounts other.old other.new }
 {
-    if !other.fits(list.sizes.capacity) {
-        return Err(Refusal::Shape);
-    }
-    let from = list.sizes.used;
-    let answer = list_record::hold_u32_table_entry(list, entry);
-    other.clear(from, list.sizes.used);
-    answer
+    call_beside(
+        list,
+        other,
+        Err(Refusal::Shape),
+        |list| list_record::hold_u32_table_entry(list, entry),
+    )
 }
 
-// A replay by one of the two. One that stops has brought places into use as well: what is cleared goes by the places, and not by the answer.
+// A replay by one of the two. One that stops has brought places into use as well.
+#[tactic(auto, unfolding(crate::specs::Shared::replay_shared))]
 pub fn replay_shared(
     list: &mut LentListMut,
     other: &mut OtherCounts,
@@ -99,19 +119,19 @@ pub fn replay_shared(
     ensures same_arrays { SameArrays list.old list.new }
     ensures same_counts { SameCounts other.old other.new }
 {
-    if !other.fits(list.sizes.capacity) {
-        return Err(Stopped {
+    call_beside(
+        list,
+        other,
+        Err(Stopped {
             reason: Refusal::Shape,
             done: 0,
-        });
-    }
-    let from = list.sizes.used;
-    let answer = list_replay::replay(list, trace);
-    other.clear(from, list.sizes.used);
-    answer
+        }),
+        |list| list_replay::replay(list, trace),
+    )
 }
 
 // Stored bytes read by one of the two.
+#[tactic(auto, unfolding(crate::specs::Shared::read_shared))]
 pub fn read_shared(
     bytes: &[u8],
     list: &mut LentListMut,
@@ -121,11 +141,10 @@ pub fn read_shared(
     ensures same_arrays { SameArrays list.old list.new }
     ensures same_counts { SameCounts other.old other.new }
 {
-    if !other.fits(list.sizes.capacity) {
-        return Err(Refusal::Shape);
-    }
-    let from = list.sizes.used;
-    let answer = list_stored::read_list(bytes, list);
-    other.clear(from, list.sizes.used);
-    answer
+    call_beside(
+        list,
+        other,
+        Err(Refusal::Shape),
+        |list| list_stored::read_list(bytes, list),
+    )
 }

@@ -1,6 +1,6 @@
 -- Reading and writing, reason by reason: when each reason is given, what it tells that none is, and what is due then.
-use mathlib.Core.Path.{◌≡◌, refl, sym, ap, subst, ◌∙◌}
-use mathlib.Core.Bool.{Bool, true, false, not, ◌||◌}
+use mathlib.Core.Path.{◌≡◌, refl, sym, ap, ◌∙◌}
+use mathlib.Core.Bool.{Bool, true, false, not, ◌||◌, or-true}
 use mathlib.Core.Logic.{◌⊎◌, inl, inr}
 use native.Mathlib.Decide.{ℕ_discrete}
 use mathlib.Core.List.{List, map, flat_map}
@@ -11,6 +11,7 @@ use borrow.Author.Tests.{ltb-false, lt-ltb, le-ltb, eqb-true, eq-eqb, ne_eqb}
 use lib.Dec.{eqb, ltb}
 use lib.ListN.{length, replicate}
 use lib.Seq.{sets}
+use Rattle.std.proofs.lemmas.Bool.{or_parts}
 use Rattle.words.specs.Answers.{Answer}
 use Rattle.words.specs.Refusals.{Judgement, Fine, Declined}
 use Rattle.words.specs.declared.Refusal.{Refusal}
@@ -21,31 +22,23 @@ use Rattle.words.specs.Places.{places}
 use Rattle.words.proofs.Judgements.{or_first, or_next, or_both, decline_fine, decline_true, decline_false, decline_not_fine, first_fine, first_none}
 use Rattle.isa.specs.Entries.{entry_words, admit_stored}
 use Rattle.list.specs.Lists.{U32List, capacity, used, entry_at, count_full, judge_entry_by}
-use Rattle.list.specs.Heights.{judged_as, sum_heights, list_height}
+use Rattle.list.specs.Heights.{sum_heights, list_height}
 use Rattle.list.specs.Holds.{HeldList, held_list, held_shape, section_list, judge_held, judged_held}
-use Rattle.list.proofs.JudgedLists.{judged_as_height, judged_as_refused}
 use Rattle.list.proofs.HeldLists.{HeldShaped, held_shaped, held_shape_fine, held_told, held_height}
-use Rattle.std.specs.Prelude.{Ok, Err}
+use Rattle.std.specs.Prelude.{Result, Ok, Err}
 use Rattle.list_bytes.specs.Packed.{head_width, stored_places, length_with, stored_length, old_length, width_of, bytes_with, stored_bytes}
 use Rattle.list_bytes.specs.Packed.{stored_n, stored_height, stored_entry, stored_multiplicity, stored_entries}
+use Rattle.list_bytes.specs.declared.StoredList.{StoredList}
 use Rattle.list_repeats.specs.Repeats.{repeats}
-use Rattle.list_stored.specs.Stored.{torn, judge_stored, tally, content_reason, read_reason, read_judged, read_all, read_answer}
+use Rattle.list_stored.specs.Stored.{torn, judge_stored, tally, content_reason, read_reason, TakenUnless, read_all, read_answer}
 use Rattle.list_stored.specs.Stored.{storing_reason, write_reason, stored_as, write_all, written_answer}
 use Rattle.list_bytes.proofs.StoredPlaces.{length_stored_places, stored_entries_lem}
 use Rattle.list_bytes.proofs.Format.{width_old, width_other}
-use Rattle.list_repeats.proofs.Repeats.{or-true}
 
-pub judged_declined : {j : Judgement} {k : Refusal} (n : ℕ) → j ≡ Declined k → Err k ≡ judged_as j n
-judged_declined n e = rw e
-
-pub judged_fine : {j : Judgement} {m : ℕ} (n : ℕ) → j ≡ Fine → m ≡ n → Ok m ≡ judged_as j n
-judged_fine n e q = rw (e, q)
+pub taken_refused : {reason : Judgement} {k : Refusal} (s : List ℕ) (r : Result StoredList Refusal) → r ≡ Err k → reason ≡ Declined k → TakenUnless reason s r
+taken_refused s r e q = rw e q
 
 -- ---- bytes that are whole
-
-both_false : (a b : Bool) → a || b ≡ false → (a ≡ false) × (b ≡ false)
-both_false false b e = (refl, e)
-both_false true b e = absurd (let z : ◌≡◌ {A = ℕ} 0 1 = cc in omega arith)
 
 pub record Whole (s : List ℕ) : Type 0 where
   pub few : stored_n s ≤ max_places
@@ -69,13 +62,10 @@ module _ (s : List ℕ) where
       go (yes f) = old_long f
       go (no f) = e ∙ ap (λ (w : ℕ). length_with w (stored_n s)) (sym (width_other s f))
 
-pub whole_room : (s : List ℕ) (n : ℕ) → n ≡ stored_n s → Whole s → length_with (width_of s) n ≤ length s
-whole_room s n e h = subst (λ (k : ℕ). length_with (width_of s) k ≤ length s) (sym e) (omega (arith, h.long))
-
 pub whole : (s : List ℕ) → torn s ≡ Fine → Whole s
 unfolding torn
 whole s e =
-    let a = both_false _ _ (decline_fine _ Torn e) in
+    let a = or_parts _ _ (decline_fine _ Torn e) in
     record { few = ltb-false max_places (stored_n s) a.0; long = go (both_not _ _ a.1) }
   where
     go : (eqb (length s) (old_length (stored_n s)) ≡ true) ⊎ (eqb (length s) (stored_length (stored_n s)) ≡ true)
@@ -139,7 +129,7 @@ readable h s e =
     let c = or_both _ _ b.1 in
     let d = or_both _ _ c.1 in
     let f = or_both _ _ d.1 in
-    let full = both_false (ltb (capacity h.list) (stored_n s)) _ (decline_fine _ ListFull c.0) in
+    let full = or_parts (ltb (capacity h.list) (stored_n s)) _ (decline_fine _ ListFull c.0) in
     record {
       shape = held_shaped h a.0;
       complete = whole s b.0;
@@ -288,13 +278,3 @@ module _ (h : HeldList) (out : List ℕ) where
         → Leaves (stored_as (storing_reason l out) l out) given after → Leaves (write_all h out) given after
     unfolding write_all
     write_stores l e w = rw (write_reason_lem, ← e) w
-
--- ---- what the judge of a reading tells
-
--- of a list that was looked at, there is nothing against reading, and how many entries it is
-pub reading_told : (h : HeldList) (s : List ℕ) {seen : HeldList} {n : ℕ} → seen ≡ h → Ok n ≡ read_judged seen s → (read_reason h s ≡ Fine) × (n ≡ stored_n s)
-reading_told h s {seen} {n} e q = judged_as_height (read_reason h s) (stored_n s) n (q ∙ ap (λ (g : HeldList). read_judged g s) e)
-
--- or why not
-pub reading_declined : (h : HeldList) (s : List ℕ) {seen : HeldList} {k : Refusal} → seen ≡ h → Err k ≡ read_judged seen s → read_reason h s ≡ Declined k
-reading_declined h s {seen} {k} e q = judged_as_refused (read_reason h s) (stored_n s) k (q ∙ ap (λ (g : HeldList). read_judged g s) e)

@@ -1,20 +1,21 @@
 -- Stored lists (document 01, "Recording and stored lists" and "Reasons to decline"): reading and writing. Holds are "not stored in files" (request 6):
 -- reading clears them, and a list with an open one is not written.
-use Rattle.std.specs.Prelude.{ℕ, true, not, ◌||◌, eqb, ltb, length, replicate, Result, Ok, Err}
+use Rattle.std.specs.Prelude.{ℕ, true, not, ◌||◌, eqb, ltb, ◌≡◌, length, replicate, Result, Ok, Err, MatchResult}
 use mathlib.Core.List.{List, [], ◌∷◌, map, flat_map}
 use Rattle.std.proofs.lemmas.List.Edits.{sets}
 use Rattle.words.specs.Limits.{max_places}
 use Rattle.words.specs.Answers.{Answer, done, declined}
 use Rattle.words.specs.Outcomes.{Outcome, outcome}
-use Rattle.words.specs.Refusals.{decline_if, or_else, first_reason, Judgement}
+use Rattle.words.specs.Refusals.{decline_if, or_else, first_reason, Judgement, Fine, Declined}
 use Rattle.words.specs.declared.Refusal.{Refusal}
 use Rattle.words.specs.declared.Refusal.TheVariants.{ListFull, Short, Torn, Repeat, Tally}
 use Rattle.words.specs.Places.{places}
 use Rattle.isa.specs.Entries.{entry_words}
 use Rattle.list.specs.Lists.{U32List, u32_list, capacity, used, judge_counted}
-use Rattle.list.specs.Heights.{Judged, judged_as, entries_at, sum_heights}
+use Rattle.list.specs.Heights.{entries_at, sum_heights}
 use Rattle.list.specs.Holds.{HeldList, held_shape, section_list, judge_held}
 use Rattle.list_bytes.specs.Packed.{stored_places, stored_length, old_length, stored_bytes, stored_n, stored_height, stored_entry, stored_multiplicity, stored_entries}
+use Rattle.list_bytes.specs.declared.StoredList.{StoredList}
 use Rattle.list_repeats.specs.Repeats.{repeats}
 
 -- 10: "stored length wrong or N above 2,048". Two lengths are right: 8 + 25·N, and "Lists of the old length are still read". Bytes too few to
@@ -50,9 +51,9 @@ read_reason h s =
     (or_else (decline_if (ltb (capacity h.list) (stored_n s) || ltb 0 (used h.list)) ListFull)
     (content_reason s)))
 
--- the number of entries, where there is no reason against reading them
-abbrev pub read_judged : HeldList → List ℕ → Judged
-read_judged h s = judged_as (read_reason h s) (stored_n s)
+-- the bytes as a stored list where there is no reason against it, else the reason
+abbrev pub TakenUnless : Judgement → List ℕ → Result StoredList Refusal → Type 0
+TakenUnless reason s result = MatchResult result (λ stored. (stored.bytes.now ≡ s) × (reason ≡ Fine)) (λ k. reason ≡ Declined k)
 
 -- "Reading .. sets used to N and answers N .. Destination places past N .. are untouched." It replaces nothing any more: no place was in use
 abbrev pub replaced_list : U32List → List ℕ → U32List

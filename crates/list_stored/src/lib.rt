@@ -8,12 +8,12 @@ ghost use Rattle.isa.specs.Entries.{entry_width};
 ghost use Rattle.list.specs.Lists.{u32_list};
 ghost use Rattle.list.specs.Heights.{list_height};
 ghost use Rattle.list.specs.Lent.{held_in, held_in_mut, SameArrays};
-ghost use Rattle.list_bytes.specs.Packed.{multiplicity_width, length_with, width_of, stored_n};
-ghost use Rattle.list_stored.specs.Stored.{content_reason, read_judged, read_all, read_answer, storing_reason, stored_as, write_all, written_answer};
-ghost use Rattle.list_stored.specs.Stored.{torn as torn_of};
+ghost use Rattle.list_bytes.specs.Packed.{multiplicity_width, length_with};
+ghost use Rattle.list_stored.specs.Stored.{torn, content_reason, read_reason, TakenUnless, read_all, read_answer, storing_reason, stored_as, write_all, written_answer};
 
 use isa::U32TableEntry;
 use list::{LentList, LentListMut, Sizes};
+use list_bytes::StoredList;
 use words::{MAX_PLACES, Refusal};
 
 // The number of bytes that n stored entries take, with multiplicities of so many bytes.
@@ -24,9 +24,9 @@ fn length_with(width: usize, n: usize) -> usize
     list_bytes::HEAD_WIDTH + (list_bytes::KEY_WIDTH * n + width * n)
 }
 
-// Reason 10: the bytes are not as many as their number of entries says, in the new form or in the old, or that number is too large.
-fn torn(bytes: &[u8]) -> Result<(), Refusal>
-    ensures { result ≡ torn_of bytes.now }
+// The bytes with their number of entries. Reason 10: they are not as many as that number says, in the new form or in the old, or it is too large.
+fn stored_list(bytes: &[u8]) -> Result<StoredList<'_>, Refusal>
+    ensures { TakenUnless (torn bytes.now) bytes.now result }
 {
     if bytes.len() < list_bytes::HEAD_WIDTH {
         return Err(Refusal::Torn);
@@ -36,48 +36,54 @@ fn torn(bytes: &[u8]) -> Result<(), Refusal>
         return Err(Refusal::Torn);
     }
     if bytes.len() == length_with(list_bytes::OLD_MULTIPLICITY_WIDTH, n) {
-        return Ok(());
+        return Ok(StoredList {
+            bytes,
+            n,
+            width: list_bytes::OLD_MULTIPLICITY_WIDTH,
+        });
     }
     if bytes.len() == length_with(list_bytes::MULTIPLICITY_WIDTH, n) {
-        return Ok(());
+        return Ok(StoredList {
+            bytes,
+            n,
+            width: list_bytes::MULTIPLICITY_WIDTH,
+        });
     }
     Err(Refusal::Torn)
 }
 
 // Reasons 2 to 5 entry by entry, 11 and 12 against what the bytes hold. It is judged on a copy, by the rule of stored bytes.
-fn judge_content(bytes: &[u8], n: usize) -> Result<(), Refusal>
-    requires { (n ≡ stored_n bytes.now) × (n ≤ max_places) × (length_with (width_of bytes.now) n ≤ length bytes.now) }
-    ensures { result ≡ content_reason bytes.now }
+fn judge_content(stored: &StoredList) -> Result<(), Refusal>
+    ensures { result ≡ content_reason stored.now.bytes.now }
 {
     let mut keys = [0u64; U32TableEntry::WIDTH * MAX_PLACES];
     let mut multiplicities = [0u64; MAX_PLACES];
-    list_bytes::unpack(bytes, n, &mut keys, &mut multiplicities);
-    let height = list::judge_places(true, n, &keys, &multiplicities)?;
-    if list_repeats::has_repeats(&keys, n) {
+    stored.unpack(&mut keys, &mut multiplicities);
+    let height = list::judge_places(true, stored.n, &keys, &multiplicities)?;
+    if list_repeats::has_repeats(&keys, stored.n) {
         return Err(Refusal::Repeat);
     }
-    if list_bytes::stored_height(bytes) == height {
+    if list_bytes::stored_height(stored.bytes) == height {
         Ok(())
     } else {
         Err(Refusal::Tally)
     }
 }
 
-// The first reason against reading the bytes into the list; where there is none, their number of entries.
-fn judge_reading(bytes: &[u8], list: &LentList) -> Result<usize, Refusal>
-    ensures { result ≡ read_judged (held_in list.now) bytes.now }
+// What the list is to be, or the first reason against reading the bytes into it.
+fn judge_reading<'a>(bytes: &'a [u8], list: &LentList) -> Result<StoredList<'a>, Refusal>
+    ensures { TakenUnless (read_reason (held_in list.now) bytes.now) bytes.now result }
 {
     list.held_shape()?;
-    torn(bytes)?;
-    let n = list_bytes::stored_n(bytes);
-    if list.sizes.capacity < n {
+    let stored = stored_list(bytes)?;
+    if list.sizes.capacity < stored.n {
         return Err(Refusal::ListFull);
     }
     if 0 < list.sizes.used {
         return Err(Refusal::ListFull);
     }
-    judge_content(bytes, n)?;
-    Ok(n)
+    judge_content(&stored)?;
+    Ok(stored)
 }
 
 // Reads stored bytes onto a list that has no key: they become the list, none of them held, and the answer is the number of entries.
@@ -85,8 +91,9 @@ pub fn read_list(bytes: &[u8], list: &mut LentListMut) -> Result<usize, Refusal>
     ensures outcome { Leaves (read_all (held_in_mut list.old) bytes.now) (read_answer result) (held_in_mut list.new) }
     ensures same_arrays { SameArrays list.old list.new }
 {
-    let n = judge_reading(bytes, &list.view())?;
-    list_bytes::unpack(bytes, n, list.keys, list.multiplicities);
+    let stored = judge_reading(bytes, &list.view())?;
+    let n = stored.n;
+    stored.unpack(list.keys, list.multiplicities);
     list::clear_places(list.holds, 0, n);
     list.sizes.used = n;
     Ok(n)

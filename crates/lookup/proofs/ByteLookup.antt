@@ -10,8 +10,8 @@ use lib.Dec.{eqb}
 use lib.ListN.{length, get_or}
 use borrow.Author.Tests.{eqb-true}
 use Rattle.words.specs.Limits.{byte_rows}
-use Rattle.field.proofs.Tables.{every, every_at, is_table}
-use Rattle.lookup.specs.ByteLookup.{byte_lookup, byte_output, NoneShared, cascade_output}
+use Rattle.field.proofs.Tables.{every, every_at, table_at, is_table}
+use Rattle.lookup.specs.ByteLookup.{byte_lookup, byte_output, NoneShared, high_byte, low_byte, cascade_output}
 
 -- the numbers
 unfoldable pub stored : List ℕ
@@ -75,10 +75,25 @@ stored_distinct i j h k e = let q : i + 1 ≡ j + 1 = sym (root_of_lem i h) ∙ 
 -- ---- the cascade
 
 -- the outputs of both bytes of a 16-bit value make the cascade's output
-pub both_looked_up : (v : ℕ) {high low : ℕ} → v < 65536 → high ≡ byte_output (v / 256 % 256) → low ≡ byte_output (v % 256)
+pub bytes_joined : (v : ℕ) {high low : ℕ} → v < 65536 → high ≡ byte_output (v / 256 % 256) → low ≡ byte_output (v % 256)
     → high * 256 + low ≡ cascade_output v
 unfolding cascade_output
-both_looked_up v h e f =
+bytes_joined v h e f =
     let within : v / 256 % 256 ≡ v / 256 = omega arith in
     let high = e ∙ ap byte_output within in
+    omega arith
+
+-- ---- a table that is lent
+
+pub looked_up_lem : (outputs : List ℕ) → outputs ≡ byte_lookup → (i : ℕ) → i < byte_rows → get_or outputs i 0 ≡ byte_output i
+unfolding byte_lookup
+looked_up_lem outputs e i h = ap (λ (l : List ℕ). get_or l i 0) e ∙ table_at byte_output byte_rows i h
+
+-- looking up both bytes of a 16-bit value in it makes the cascade's output
+pub both_looked_up : (outputs : List ℕ) → outputs ≡ byte_lookup → (v : ℕ) → v < 65536 →
+    256 * get_or outputs (high_byte v) 0 + get_or outputs (low_byte v) 0 ≡ cascade_output v
+unfolding cascade_output
+both_looked_up outputs e v h =
+    let high = looked_up_lem outputs e (high_byte v) (omega arith) in
+    let low = looked_up_lem outputs e (low_byte v) (omega arith) in
     omega arith

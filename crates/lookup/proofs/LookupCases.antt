@@ -11,7 +11,7 @@ use lib.Dec.{eqb, ltb}
 use lib.ListN.{length, get_or, length-set}
 use lib.Seq.{get_or-set_same, get_or-set_other}
 use borrow.Author.Tests.{lt-ltb, le-ltb, ltb-true, ltb-false, eqb-true, eqb-false, not-true}
-use Rattle.std.specs.Prelude.{Ok, Err}
+use Rattle.std.specs.Prelude.{Some, None, Ok, Err}
 use Rattle.std.proofs.lemmas.Bool.{or_parts}
 use Rattle.words.specs.Limits.{max_cascade_places, multiplicity_limit, byte_rows}
 use Rattle.words.specs.Answers.{done}
@@ -21,7 +21,6 @@ use Rattle.words.specs.declared.Refusal.TheVariants.{Shape, CountFull, CascadeFu
 use Rattle.words.proofs.Judgements.{decline_fine, decline_not_fine, or_both}
 use Rattle.list.specs.Lists.{count_full}
 use Rattle.list.proofs.JudgedLists.{count_within}
-use Rattle.lookup.specs.declared.LimbPlace.TheVariants.{Known, New}
 use Rattle.lookup.specs.ByteLookup.{high_byte, low_byte}
 use Rattle.lookup.specs.Cascades.{Cascade, Lookups, capacity, used, find_value, known, cascade_shape, bytes_shape, lookup_shape}
 use Rattle.lookup.specs.Cascades.{raised_byte, raised_bytes, bytes_full, value_reason, lookup_reason, raised, appended, looked_up_into, look_up_all}
@@ -115,7 +114,7 @@ module _ (t : Lookups) (v : ℕ) where
     unfolding place_of lookup_reason value_reason
     place_full h m = let k = rw found at h in let n = rw found at m in rw (right, lt-ltb _ _ k, n)
 
-    pub place_known : at < used t.values → count_full (get_or t.values.multiplicities at 0 + 1) ≡ false → place_of t v ≡ Ok (Known at)
+    pub place_known : at < used t.values → count_full (get_or t.values.multiplicities at 0 + 1) ≡ false → place_of t v ≡ Ok (Some at)
     unfolding place_of lookup_reason value_reason
     place_known h m = let k = rw found at h in let n = rw found at m in rw (found, right, lt-ltb _ _ k, n, lt-ltb _ _ k)
 
@@ -124,7 +123,7 @@ module _ (t : Lookups) (v : ℕ) where
       unfolding place_of lookup_reason value_reason
       bytes_declined b = let k = rw found at past in rw (right, le-ltb _ _ k, b)
 
-      pub place_new : bytes_full t.byte_multiplicities v ≡ false → used t.values < capacity t.values → place_of t v ≡ Ok New
+      pub place_new : bytes_full t.byte_multiplicities v ≡ false → used t.values < capacity t.values → place_of t v ≡ Ok None
       unfolding place_of lookup_reason value_reason
       place_new b m = let k = rw found at past in rw (right, le-ltb _ _ k, b, lt-ltb _ _ m, le-ltb _ _ k)
 
@@ -139,7 +138,7 @@ unfolding look_up_all place_of
 looked_up_at t v = go (lookup_reason t v) where
   either : (b : Bool) → ◌≡◌ {A = Outcome Lookups}
       (record { answer = done []; left = cond b (raised t (find_value t.values v)) (appended t v) })
-      (stored_at t v (Ok (cond b (Known (find_value t.values v)) New)))
+      (stored_at t v (Ok (cond b (Some (find_value t.values v)) None)))
   either true = refl
   either false = refl
 
@@ -152,7 +151,7 @@ pub place_fits : (t : Lookups) (v : ℕ) → Fits t v (place_of t v)
 unfolding place_of lookup_reason value_reason bytes_shape
 place_fits t v = go (lookup_reason t v) refl where
   room : Shaped t.values → length t.byte_multiplicities ≡ byte_rows → (b : Bool) → known t.values v ≡ b → value_reason t v ≡ Fine
-      → Fits t v (Ok (cond b (Known (find_value t.values v)) New))
+      → Fits t v (Ok (cond b (Some (find_value t.values v)) None))
   room s bytes true k f =
       let h : find_value t.values v < used t.values = ltb-true _ _ k in
       (omega (arith, s.within, s.multiplicities), decline_fine _ CountFull (rw k at f))

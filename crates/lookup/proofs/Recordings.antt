@@ -1,7 +1,7 @@
 -- Over every list of recordings from fresh tables the byte multiplicities total twice the number of distinct accepted values (`twice_distinct`). By
 -- induction on the recordings, from any tables whose known values are those accepted before: a known value leaves the bytes alone, a new one raises
 -- their total by two and is known from then on. Assumes nothing.
-use Prim.Native.Nat.{ℕ, zero, suc, ◌+◌, ◌*◌, ◌/◌, ◌%◌, ◌≤◌, ◌<◌}
+use Prim.Native.Nat.{ℕ, zero, suc, ◌+◌, ◌*◌, ◌/◌, ◌%◌, ◌<◌}
 use mathlib.Core.Path.{◌≡◌, refl, sym, ap, ap₂, ◌∙◌, subst}
 use mathlib.Core.Bool.{Bool, true, false, not, ◌||◌, and-eq-true_iff}
 use mathlib.Core.List.{List, [], ◌∷◌}
@@ -10,15 +10,15 @@ use native.Mathlib.Omega.{arith}
 use lib.Dec.{eqb, ltb}
 use lib.ListN.{length, get_or, set, length-set}
 use lib.Seq.{get_or-set_same, get_or-set_other}
-use borrow.Author.Tests.{eqb-true, ne_eqb, ltb-true, lt-ltb, le-ltb}
+use borrow.Author.Tests.{eqb-true, ltb-true, lt-ltb, le-ltb}
 use Rattle.words.specs.Answers.{done, declined}
 use Rattle.words.specs.Limits.{byte_rows}
 use Rattle.words.specs.Outcomes.{Outcome}
-use Rattle.words.specs.Refusals.{refusal_number, decline_if, Judgement, Fine, Declined}
+use Rattle.words.specs.Refusals.{decline_if, Judgement, Fine, Declined}
 use Rattle.words.specs.declared.Refusal.{Refusal}
 use Rattle.words.specs.declared.Refusal.TheVariants.{Shape, CountFull, CascadeFull}
 use Rattle.words.proofs.Judgements.{or_both, decline_not_fine}
-use Rattle.words.proofs.Answers.{number_positive}
+use Rattle.words.proofs.Answers.{not_done}
 use Rattle.lookup.specs.Cascades.{Cascade, Lookups, capacity, used, find_from, find_value, known, lookup_shape, cascade_shape, bytes_shape}
 use Rattle.lookup.specs.Cascades.{raised_byte, raised_bytes, bytes_full, raised, appended, value_reason, lookup_reason, look_up_all}
 use Rattle.lookup.specs.Recordings.{looked_up, accepted, occurs, distinct_after, total, SixteenBits, TwiceDistinct}
@@ -51,9 +51,6 @@ total_none (x ∷ xs) h = let a = h 0 in let r = total_none xs (λ i. h (suc i))
 held : List ℕ → ℕ → ℕ → ℕ → Bool
 held keys v i zero = false
 held keys v i (suc n) = eqb (get_or keys i 0) v || held keys v (suc i) n
-
-below_self : (a b : ℕ) → b ≤ a → ltb a b ≡ false
-below_self a b h = le-ltb a b h
 
 find_held : (keys : List ℕ) (v i n m : ℕ) → m ≡ i + n → ltb (find_from keys v i n) m ≡ held keys v i n
 unfolding find_from held
@@ -156,9 +153,7 @@ module _ (t : Lookups) (v : ℕ) (vs earlier : List ℕ) {after : Outcome Lookup
 
   then_declined : (reason : Refusal) → after.answer ≡ declined reason → accepted t (v ∷ vs) ≡ accepted after.left vs
   unfolding accepted
-  then_declined reason a =
-      let positive : eqb (refusal_number reason) 0 ≡ false = ne_eqb (refusal_number reason) 0 (λ z. omega (arith, number_positive reason)) in
-      rw (e, a, positive)
+  then_declined reason a = rw (e, a, not_done reason)
 
   then_accepted : after.answer ≡ done [] → accepted t (v ∷ vs) ≡ v ∷ accepted after.left vs
   unfolding accepted

@@ -68,13 +68,6 @@ pub struct LentLookupsMut<'a> {
     pub byte_multiplicities: &'a mut [u64],
 }
 
-// Where a value goes: the place of the first equal key, or nowhere yet.
-#[derive(Clone, Copy)]
-pub enum LimbPlace {
-    Known(usize),
-    New,
-}
-
 impl LentCascade<'_> {
     // Reason 1. With the most places and the words of a key as arguments, one function for this and `list::list_shape` would be no plainer.
     #[tactic(auto, unfolding(crate::specs::Cascades::cascade_shape))]
@@ -109,6 +102,7 @@ fn find_value(keys: &[u16], n: usize, value: u16) -> Option<usize>
     ensures { MatchOption result (find_from keys.now value 0 n ≡ n) (λ at. (at < n) × (at ≡ find_from keys.now value 0 n)) }
 {
     let mut passed: usize = 0;
+    // By number, not by `chunks_exact`: so it is plain which places a run has.
     for run in 0..n / 256 {
         if holds(&keys[256 * run..256 * run + 256], value) {
             break;
@@ -164,8 +158,9 @@ impl LentLookupsMut<'_> {
         }
     }
 
-    // Where a value goes, or the first reason against recording it: 1, then 5, then 14. Of a known value the bytes are not looked at.
-    fn find_limb(&self, limb: u16) -> Result<LimbPlace, Refusal>
+    // Where a value goes, the place of the first equal key, or none yet where it is new; or the first reason against recording it: 1, then 5,
+    // then 14. Of a known value the bytes are not looked at.
+    fn find_limb(&self, limb: u16) -> Result<Option<usize>, Refusal>
         ensures { result ≡ place_of (lookups_in self.now) limb }
     {
         self.cascade().judge_shape()?;
@@ -177,27 +172,27 @@ impl LentLookupsMut<'_> {
             if would_pass_limit(self.multiplicities[at], 1) {
                 return Err(Refusal::CountFull);
             }
-            return Ok(LimbPlace::Known(at));
+            return Ok(Some(at));
         }
         if bytes_full(self.byte_multiplicities, limb) {
             return Err(Refusal::CountFull);
         }
         if used < self.sizes.capacity {
-            Ok(LimbPlace::New)
+            Ok(None)
         } else {
             Err(Refusal::CascadeFull)
         }
     }
 
     // Stores at a place that was found: the value there gains one; or the new value is appended with 1, and its bytes gain one each.
-    fn store_limb(&mut self, limb: u16, place: LimbPlace)
+    fn store_limb(&mut self, limb: u16, place: Option<usize>)
         requires { Fits (lookups_in self.old) limb (Ok place) }
         ensures outcome { Leaves (stored_at (lookups_in self.old) limb (Ok place)) (done []) (lookups_in self.new) }
         ensures same_arrays { SameArrays self.old self.new }
     {
         match place {
-            LimbPlace::Known(at) => self.multiplicities[at] += 1,
-            LimbPlace::New => {
+            Some(at) => self.multiplicities[at] += 1,
+            None => {
                 let used = self.sizes.used;
                 self.keys[used] = limb;
                 self.multiplicities[used] = 1;

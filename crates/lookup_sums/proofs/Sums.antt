@@ -16,10 +16,10 @@ use Rattle.words.specs.Refusals.{decline_if, or_else, Judgement, Fine, Declined}
 use Rattle.words.specs.declared.Refusal.TheVariants.{Shape, Unreduced, Flat}
 use Rattle.words.proofs.Judgements.{decline_not_fine}
 use Rattle.words.proofs.Outcomes.{outcome_declined}
-use Rattle.xfield.specs.Extension.{Reduced}
+use Rattle.xfield.specs.Extension.{Ext, Reduced, is_zero_x}
 use Rattle.xfield.proofs.Laws.{sub_x_reduced}
 use Rattle.table.specs.Columns.{aux_width, all_reduced}
-use Rattle.sums.specs.RunningSum.{Summand, denominators_ok, ZeroDenominator}
+use Rattle.sums.specs.RunningSum.{Summand, denominator_ok, denominators_ok, ZeroDenominator}
 use Rattle.sums.proofs.RunningSums.{sum_cong}
 use Rattle.sums.proofs.SumsAlike.{words_alike, denominators_alike}
 use Rattle.sums.proofs.ZeroDenominators as Denominators
@@ -31,11 +31,26 @@ use Rattle.lookup_sums.specs.Flat.{ByteFlatExactly, CascadeFlatExactly}
 use Rattle.lookup.proofs.LookupCases.{Shaped, shaped}
 use Rattle.lookup_sums.proofs.OneSum.{byte_summand_lem}
 
+-- ---- nothing against the summand of a value, with the challenges and the denominator that the code holds
+
+pub place_ok : (keys ms challenges : List ℕ) (i : ℕ) {c : LookupChallenges} {d : Ext} → c ≡ lookup_challenges_of challenges
+    → d ≡ lookup_denominator c (get_or keys i 0) (cascade_output (get_or keys i 0)) → denominator_ok (cascade_summand keys ms challenges i) ≡ not (is_zero_x d)
+unfolding cascade_summand denominator_ok
+place_ok keys ms challenges i e f = rw (f, e)
+
 -- ---- 8 and 9
 
 module _ (s : ℕ → Summand) (n : ℕ) (ms challenges : List ℕ) where
   abbrev reduced : Bool
   reduced = all_reduced challenges && all_reduced (take n ms)
+
+  pub challenges_unreduced : all_reduced challenges ≡ false → places_reason s n ms challenges ≡ Declined Unreduced
+  unfolding places_reason
+  challenges_unreduced r = rw r
+
+  pub multiplicities_unreduced : all_reduced challenges ≡ true → all_reduced (take n ms) ≡ false → places_reason s n ms challenges ≡ Declined Unreduced
+  unfolding places_reason
+  multiplicities_unreduced r m = rw (r, m)
 
   -- ---- 1 before them, of any shape; and 9: each of the other ways through the tests has another number
 

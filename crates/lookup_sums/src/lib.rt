@@ -33,6 +33,7 @@ pub struct LookupChallenges {
 impl LookupChallenges {
     pub const WIDTH: usize = 3 * XFieldElement::WIDTH;
 
+    // No `From`, which cannot require that there are enough words, and no `TryFrom`, which could fail.
     #[tactic(auto, unfolding(crate::specs::LookupSums::lookup_challenges_of))]
     pub fn from_words(words: &[u64]) -> Self
         requires { lookup_challenge_words ≤ length words.now }

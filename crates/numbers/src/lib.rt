@@ -4,7 +4,7 @@
 
 ghost use Rattle.std.specs.Prelude.{◌≡◌, ℕ, ◌≤◌, List, length, replicate, Ok};
 ghost use Rattle.numbers.specs.Numbers.{start_place, line_of_next, gap_step, digit_step, step_of};
-ghost use Rattle.numbers.specs.Sheets.{IsFed, take_ended, feed_byte, feed_all, end_number};
+ghost use Rattle.numbers.specs.Sheets.{IsFed, Within, start_reader, take_ended, feed_byte, feed_all, end_number};
 
 // How far a text has been read.
 #[derive(Clone, Copy)]
@@ -41,6 +41,18 @@ pub struct Reader<S> {
     pub sheet: S,
 }
 
+impl<S> Reader<S> {
+    // Before the first byte.
+    pub fn new(sheet: S) -> Reader<S>
+        ensures { result ≡ start_reader sheet }
+    {
+        Reader {
+            place: start(),
+            sheet,
+        }
+    }
+}
+
 // What takes the numbers of a text: each has its place among lent words.
 pub trait Sheet: Copy {
     ghost use Rattle.numbers.specs.Sheets.{Fed, IsTaken};
@@ -48,7 +60,7 @@ pub trait Sheet: Copy {
     // So many words have places for all numbers.
     ghost room: { ℕ };
 
-    // The numbers that are due have places among them.
+    // The numbers that are due have places among them. In a ghost field of the sheet, or of the reader, each definition that makes one would prove it.
     ghost Fits: { Self → Type 0 };
 
     // What one number more, which ended on this line, leaves.
@@ -57,6 +69,26 @@ pub trait Sheet: Copy {
     fn take(self, line: u64, value: u64, words: &mut [u64]) -> Result<Self, Fault>
         requires { (room ≤ length words.old) × Fits self }
         ensures { IsTaken Fits (takes line self value words.old) result words.new };
+}
+
+// A sheet whose text has an answer.
+pub trait Answered: Sheet {
+    ghost use Rattle.std.specs.Prelude.{Result};
+    ghost use Rattle.text.specs.Put.{Put};
+    ghost use Rattle.numbers.specs.Sheets.{Within};
+    ghost use Rattle.numbers.specs.declared.Fault.{Fault};
+    ghost use Rattle.numbers.specs.declared.Reader.{Reader};
+
+    // No answer is longer.
+    ghost longest: { ℕ };
+
+    // The answer for a text that ended here.
+    ghost answer: { (stage : Result (Reader Self) Fault) → (words : List ℕ) → List ℕ };
+
+    // Puts it at the front of `out`; answers its length.
+    fn put_answer(stage: Result<Reader<Self>, Fault>, words: &mut [u64], out: &mut [u8]) -> usize
+        requires { (Self.room ≤ length words.old) × (longest ≤ length out.old) × Within Self.Fits stage }
+        ensures { Put out.old 0 (answer stage words.old) out.new result };
 }
 
 // Before the first byte.
@@ -124,11 +156,14 @@ pub fn next(place: Place, byte: u8) -> Result<Step, u64>
     }
 }
 
+// As many numbers as a program takes: 16, and ten for each of 16,384 rows. The crates that name these limits stand on this one.
+const MOST_NUMBERS: usize = 16 + 10 * 16384;
+
 // Room for the numbers of a text, as many as a program takes: all 0.
-pub fn room() -> [u64; 163856]
+pub fn room() -> [u64; MOST_NUMBERS]
     ensures { result ≡ replicate 163856 0 }
 {
-    [0; 163856]
+    [0; MOST_NUMBERS]
 }
 
 // ---- a whole text
@@ -154,28 +189,35 @@ fn read_byte<S: Sheet>(reader: Reader<S>, byte: u8, words: &mut [u64]) -> Result
     requires { (S.room ≤ length words.old) × S.Fits reader.sheet }
     ensures { IsFed S.Fits (feed_byte S.takes (Ok reader) byte words.old) result words.new }
 {
-    match next(reader.place, byte) {
-        Ok(step) => take_ended(reader.sheet, step.number, step.place, words),
-        Err(line) => Err(Fault::Malformed(line)),
-    }
+    let step = next(reader.place, byte).map_err(Fault::Malformed)?;
+    take_ended(reader.sheet, step.number, step.place, words)
 }
 
-// Reads a part more of a text: its numbers are put into the lent words, each at its place.
-pub fn feed<S: Sheet>(reader: Reader<S>, part: &[u8], words: &mut [u64]) -> Result<Reader<S>, Fault>
-    requires { (S.room ≤ length words.old) × S.Fits reader.sheet }
-    ensures { IsFed S.Fits (feed_all S.takes (Ok reader) part.now words.old) result words.new }
+// Reads a part more of a text that was read so far: its numbers are put into the lent words, each at its place. After a fault nothing is read.
+// That there are words enough stays a clause: of a struct that holds them each `ensures` would have to say that they are still the caller's words.
+pub fn feed<S: Sheet>(
+    stage: Result<Reader<S>, Fault>,
+    part: &[u8],
+    words: &mut [u64],
+) -> Result<Reader<S>, Fault>
+    requires { (S.room ≤ length words.old) × Within S.Fits stage }
+    ensures { IsFed S.Fits (feed_all S.takes stage part.now words.old) result words.new }
 {
-    let mut reached = reader;
+    let mut reached = stage?;
     for byte in part {
         reached = read_byte(reached, *byte, words)?;
     }
     Ok(reached)
 }
 
-// The end of a text, which ends a number too.
-pub fn end_number<S: Sheet>(reader: Reader<S>, words: &mut [u64]) -> Result<Reader<S>, Fault>
-    requires { (S.room ≤ length words.old) × S.Fits reader.sheet }
-    ensures { IsFed S.Fits (end_number S.takes (Ok reader) words.old) result words.new }
+// The end of a text that was read so far, which ends a number too.
+pub fn end_number<S: Sheet>(
+    stage: Result<Reader<S>, Fault>,
+    words: &mut [u64],
+) -> Result<Reader<S>, Fault>
+    requires { (S.room ≤ length words.old) × Within S.Fits stage }
+    ensures { IsFed S.Fits (end_number S.takes stage words.old) result words.new }
 {
+    let reader = stage?;
     take_ended(reader.sheet, reader.place.number, reader.place, words)
 }

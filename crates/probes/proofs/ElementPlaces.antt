@@ -1,16 +1,38 @@
 -- Elements of three words, one after the other: how many words they are, a turn of the loop that stores them, and what it has stored at its
--- end. Assumes nothing.
+-- end; and the tests of lengths. Assumes nothing.
 use Prim.Native.Nat.{ℕ, zero, suc, ◌+◌, ◌*◌, ◌%◌, ◌/◌}
 use mathlib.Core.Path.{◌≡◌, refl, sym, ap, ◌∙◌}
+use mathlib.Core.Bool.{true, false}
 use mathlib.Core.List.{List, ◌++◌, append-nil}
 use native.Mathlib.Omega.{arith}
 use native.Mathlib.Numerals.{add-one}
 use lib.ListN.{length, length-append, drop}
 use lib.Seq.{sets, drop-length}
+use borrow.Author.Tests.{eq-eqb, ne_eqb}
 use Rattle.words.proofs.Sets.{sets_then, sets_front}
 use Rattle.xfield.specs.Extension.{Ext, words_x}
 use Rattle.table.specs.Columns.{element_at}
-use Rattle.probes.specs.ExtensionProbes.{words_of_first, elementwise}
+use Rattle.probes.specs.ExtensionProbes.{elements_fit, words_of_first, elementwise}
+use Rattle.probes.proofs.Places.{left_differs, right_differs, products_fit_lem}
+
+-- ---- lengths
+pub left_is_other : (left right out : List ℕ) → (length left ≡ length out → ⊥) → elements_fit left right out ≡ false
+unfolding elements_fit
+left_is_other left right out h = rw (left_differs left right out h)
+
+pub right_is_other : (left right out : List ℕ) → length left ≡ length out → (length right ≡ length out → ⊥) → elements_fit left right out ≡ false
+unfolding elements_fit
+right_is_other left right out e h = rw (right_differs left right out e h)
+
+pub not_whole : (left right out : List ℕ) → length left ≡ length out → length right ≡ length out → (length left % 3 ≡ 0 → ⊥)
+    → elements_fit left right out ≡ false
+unfolding elements_fit
+not_whole left right out e f h = rw (products_fit_lem left right out e f, ne_eqb (length left % 3) 0 h)
+
+pub elements_fit_lem : (left right out : List ℕ) → length left ≡ length out → length right ≡ length out → length left % 3 ≡ 0
+    → elements_fit left right out ≡ true
+unfolding elements_fit
+elements_fit_lem left right out e f h = rw (products_fit_lem left right out e f, eq-eqb (length left % 3) 0 h)
 
 -- ---- the words of some elements
 module _ (elements : ℕ → Ext) where

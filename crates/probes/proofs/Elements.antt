@@ -1,13 +1,15 @@
 -- Extension elements one after the other, three words each: a loop that stores one after another leaves all of them (`elements_turn`), runs
--- that follow one another are one run (`then`), and the forty values fill their array (`all_stored`). Assumes nothing.
-use Prim.Native.Nat.{ℕ, ◌+◌, ◌*◌, ◌≤◌, ◌<◌}
+-- that follow one another are one run (`then`), and the forty values fill their array (`all_stored`); and the tests of lengths. Assumes nothing.
+use Prim.Native.Nat.{ℕ, ◌+◌, ◌*◌, ◌%◌, ◌≤◌, ◌<◌}
 use mathlib.Core.Path.{◌≡◌, refl, sym, ap, ◌∙◌}
+use mathlib.Core.Bool.{true, false}
 use mathlib.Core.List.{List, [], ◌∷◌, ◌++◌, map, append_assoc, append-nil}
 use native.Mathlib.Omega.{arith}
 use native.Mathlib.Numerals.{add-one}
 use lib.ListN.{length, get_or, take, length-map, length-append, drop_of_length-le, get_or-map}
 use lib.Seq.{sets, take-suc, length-take-le}
 use borrow.Author.Count.{below_more}
+use borrow.Author.Tests.{eq-eqb, ne_eqb}
 use Rattle.words.proofs.Sets.{sets_then, sets_front, get_d_sets_below, get_d_sets_in}
 use Rattle.xfield.specs.Extension.{Ext, words_x, InverseOrZeroX}
 use Rattle.xfield.specs.XFieldElements.{ext_of}
@@ -15,8 +17,8 @@ use Rattle.xfield.specs.declared.XFieldElement.{XFieldElement}
 use Rattle.table.specs.Columns.{Row, row_at, element_at, aux_at}
 use Rattle.table.specs.Challenges.{Challenges, challenges_of}
 use Rattle.air.specs.Constraints.{initial_constraints, consistency_constraints, transition_constraints, terminal_constraints}
-use Rattle.air.proofs.Lists.{consistency_length, transition_length}
-use Rattle.probes.specs.Probes.{words_of, constraints_of, constraint_words}
+use Rattle.air.proofs.Lists.{initial_length, consistency_length, transition_length}
+use Rattle.probes.specs.Probes.{words_of, constraints_of, constraint_words, ext_inverses_fit}
 
 -- ---- words of elements
 words_append : (xs ys : List Ext) → words_of (xs ++ ys) ≡ words_of xs ++ words_of ys
@@ -54,10 +56,6 @@ whole ws l e =
     sets_front ws l (omega (arith, e)) ∙ ap (λ (rest : List ℕ). ws ++ rest) (drop_of_length-le l {i = length ws} (omega (arith, e))) ∙ append-nil ws
 
 module _ (c : Challenges) (upper lower : Row) (sum next : Ext) where
-  one_initial : length (initial_constraints c upper sum) ≡ 1
-  unfolding initial_constraints
-  one_initial = refl
-
   forty : length (constraints_of c upper lower sum next) ≡ 40
   unfolding constraints_of initial_constraints consistency_constraints transition_constraints terminal_constraints
   forty = refl
@@ -69,7 +67,7 @@ module _ (c : Challenges) (upper lower : Row) (sum next : Ext) where
       → v₄ ≡ words_of (constraints_of c upper lower sum next)
   unfolding constraints_of
   all_stored v₀ v₁ v₂ v₃ v₄ is cs ts es n a b d e e₁ e₂ e₃ e₄ =
-      let i₁ : length is ≡ 1 = ap length a ∙ one_initial in
+      let i₁ : length is ≡ 1 = ap length a ∙ initial_length c upper sum in
       let c₁₅ : length cs ≡ 15 = ap length b ∙ consistency_length upper in
       let t₂₂ : length ts ≡ 22 = ap length d ∙ transition_length c upper lower sum next in
       let r₃ = then v₁ v₂ v₃ cs ts 3 48 e₂ e₃ (omega arith) in
@@ -118,3 +116,15 @@ inverses_turn words out after i x y h e v f all =
     i
     (λ k l. rw (f, element_kept out (words_x y) i k l) (all k l))
     (rw (f, element_stored out i y h, ← e) v)
+
+pub ext_words_differ : (words out : List ℕ) → (length words ≡ length out → ⊥) → ext_inverses_fit words out ≡ false
+unfolding ext_inverses_fit
+ext_words_differ words out h = rw (ne_eqb (length words) (length out) h)
+
+pub not_whole : (words out : List ℕ) → length words ≡ length out → (length words % 3 ≡ 0 → ⊥) → ext_inverses_fit words out ≡ false
+unfolding ext_inverses_fit
+not_whole words out e h = rw (eq-eqb (length words) (length out) e, ne_eqb (length words % 3) 0 h)
+
+pub ext_inverses_fit_lem : (words out : List ℕ) → length words ≡ length out → length words % 3 ≡ 0 → ext_inverses_fit words out ≡ true
+unfolding ext_inverses_fit
+ext_inverses_fit_lem words out e h = rw (eq-eqb (length words) (length out) e, eq-eqb (length words % 3) 0 h)

@@ -1,14 +1,28 @@
--- Lists place by place. Assumes nothing.
+-- Lists place by place, and the tests of lengths. Assumes nothing.
 use Prim.Native.Nat.{ℕ, zero, suc, ◌<◌}
 use mathlib.Core.Path.{◌≡◌, refl, sym, ap, ◌∙◌}
+use mathlib.Core.Bool.{true, false}
 use mathlib.Core.List.{List, [], ◌∷◌}
 use native.Mathlib.Omega.{arith}
 use lib.ListN.{length, get_or}
 use lib.Seq.{ext_get_or}
+use borrow.Author.Tests.{eq-eqb, ne_eqb}
 use Rattle.field.specs.Elements.{mul_f, inv_f}
-use Rattle.probes.specs.Probes.{products_of, inverses_of}
+use Rattle.probes.specs.Probes.{products_fit, products_of, inverses_fit, inverses_of}
 
 -- ---- products
+pub left_differs : (left right out : List ℕ) → (length left ≡ length out → ⊥) → products_fit left right out ≡ false
+unfolding products_fit
+left_differs left right out h = rw (ne_eqb (length left) (length out) h)
+
+pub right_differs : (left right out : List ℕ) → length left ≡ length out → (length right ≡ length out → ⊥) → products_fit left right out ≡ false
+unfolding products_fit
+right_differs left right out e h = rw (eq-eqb (length left) (length out) e, ne_eqb (length right) (length out) h)
+
+pub products_fit_lem : (left right out : List ℕ) → length left ≡ length out → length right ≡ length out → products_fit left right out ≡ true
+unfolding products_fit
+products_fit_lem left right out e f = rw (eq-eqb (length left) (length out) e, eq-eqb (length right) (length out) f)
+
 length_products : (left right : List ℕ) → length left ≡ length right → length (products_of left right) ≡ length right
 unfolding products_of
 length_products [] right e = e
@@ -31,6 +45,14 @@ are_products left right out e f all =
     (λ k h. all k h ∙ sym (products_at left right k (omega (arith, e, h)) (omega (arith, f, h))))
 
 -- ---- inverses
+pub inverses_fit_lem : (words out : List ℕ) → length words ≡ length out → inverses_fit words out ≡ true
+unfolding inverses_fit
+inverses_fit_lem words out e = eq-eqb (length words) (length out) e
+
+pub words_differ : (words out : List ℕ) → (length words ≡ length out → ⊥) → inverses_fit words out ≡ false
+unfolding inverses_fit
+words_differ words out h = ne_eqb (length words) (length out) h
+
 length_inverses : (words : List ℕ) → length (inverses_of words) ≡ length words
 unfolding inverses_of
 length_inverses [] = refl

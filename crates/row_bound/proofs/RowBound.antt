@@ -34,16 +34,13 @@ use Rattle.row_bound.proofs.Weights.{sum_to, sum_ext, sum_first, picked, runs_fi
 
 -- ---- the height of the entry of a row with CopyFlag 1
 
-max_below : {a b n : ℕ} → a < n → b < n → max a b < n
-max_below {a} {b} {n} l r = omega arith
-
 dominant_bound : {row : Row} {k : ℕ} → Descent row k → k ≤ 32 → dominant (entry_of row) < 2 ^ k
 unfolding dominant
 dominant_bound {row} {k} s h = go (eqb row.ci op_pow) refl
   where
     go : (t : Bool) → eqb row.ci op_pow ≡ t → cond t row.rhs (max row.lhs row.rhs) < 2 ^ k
     go true e = rhs_bound s h
-    go false e = max_below (lhs_bound s h (eqb-false _ _ e)) (rhs_bound s h)
+    go false e = omega (arith, lhs_bound s h (eqb-false _ _ e), rhs_bound s h)
 
 height_bound : {row : Row} {k : ℕ} → Descent row k → row.copy_flag ≡ 1 → height (entry_of row) ≤ suc k
 unfolding height

@@ -2,8 +2,8 @@
 -- (section_height); none of the denominators of its first rows is zero exactly where the counted keys with one weigh nothing (section_zeros). Assumes nothing.
 use Prim.Native.Nat.{ℕ, ◌+◌}
 use mathlib.Core.Path.{◌≡◌, refl, sym, ap, ◌∙◌}
-use mathlib.Core.Bool.{Bool, true, false, cond, not, ◌&&◌}
-use mathlib.Core.List.{List, [], ◌∷◌, ◌++◌, map}
+use mathlib.Core.Bool.{Bool, true, false, cond, not, ◌&&◌, and-true, and-false, and_assoc}
+use mathlib.Core.List.{List, [], ◌∷◌, ◌++◌, map, map-append}
 use mathlib.Core.Logic.{◌≢◌}
 use native.Mathlib.Nat.{add-zero}
 use native.Mathlib.Omega.{arith}
@@ -15,7 +15,7 @@ use Rattle.list.specs.Lists.{used, entry_at, multiplicity_at}
 use Rattle.list.specs.Heights.{sum_heights, list_height}
 use Rattle.list.specs.Holds.{HeldList, section_list}
 use Rattle.list.proofs.JudgedLists.{sum_append}
-use Rattle.list.proofs.CountedLists.{counted_fold, counted_height, map_join}
+use Rattle.list.proofs.CountedLists.{counted_fold, counted_height}
 use Rattle.list_record.proofs.RecordViews.{view_of}
 use Rattle.table.specs.Columns.{Row}
 use Rattle.table.specs.Challenges.{Challenges, row_denominator}
@@ -43,7 +43,7 @@ section_height h =
     more : (is : List ℕ) (i : ℕ)
         → sum_heights (map (entry_at h.list) (is ++ (i ∷ []))) ≡ sum_heights (map (entry_at h.list) is) + height (entry_at h.list i)
     more is i =
-        ap sum_heights (map_join (entry_at h.list) is (i ∷ []))
+        ap sum_heights (map-append (entry_at h.list) is (i ∷ []))
         ∙ sum_append (map (entry_at h.list) is) (entry_at h.list i ∷ [])
         ∙ ap (λ (n : ℕ). sum_heights (map (entry_at h.list) is) + n) (add-zero (height (entry_at h.list i)))
 
@@ -64,27 +64,16 @@ section_height h =
 abbrev pub zero_weight : Challenges → Weight
 zero_weight c m g k = cond (eqb m 0) 0 (bit (is_zero_x (entry_denominator c k)))
 
-and_assoc : (s t u : Bool) → (s && (t && u)) ≡ ((s && t) && u)
-and_assoc true t u = refl
-and_assoc false t u = refl
-
-and-true : (t : Bool) → (t && true) ≡ t
-and-true true = refl
-and-true false = refl
-
 none_join : (c : Challenges) (xs ys : List Row) → none_zero c (xs ++ ys) ≡ (none_zero c xs && none_zero c ys)
 unfolding none_zero
 none_join c [] ys = refl
 none_join c (a ∷ xs) ys =
     ap (λ (t : Bool). not (is_zero_x (row_denominator c a)) && t) (none_join c xs ys)
-    ∙ and_assoc (not (is_zero_x (row_denominator c a))) (none_zero c xs) (none_zero c ys)
+    ∙ sym (and_assoc (not (is_zero_x (row_denominator c a))) (none_zero c xs) (none_zero c ys))
 
 -- a sum with one more is 0 where it was and nothing comes
 zero_more : (s : ℕ) (t : Bool) → eqb (s + bit t) 0 ≡ (eqb s 0 && not t)
-zero_more s true = ne_eqb (s + 1) 0 (λ q. omega arith) ∙ sym (and_false (eqb s 0)) where
-  and_false : (u : Bool) → (u && false) ≡ false
-  and_false true = refl
-  and_false false = refl
+zero_more s true = ne_eqb (s + 1) 0 (λ q. omega arith) ∙ sym (and-false (eqb s 0))
 zero_more s false = ap (λ (n : ℕ). eqb n 0) (add-zero s) ∙ sym (and-true (eqb s 0))
 
 pub section_zeros : (c : Challenges) (h : HeldList) → none_zero c (first_rows_of (section_list h)) ≡ eqb (weigh (zero_weight c) (view_of h)) 0

@@ -15,9 +15,10 @@ use Rattle.isa.proofs.Entries.{judged_admissible, admissible_fine}
 use Rattle.list_record.proofs.Views.{View, EachPlace}
 use Rattle.list_record.proofs.RecordViews.{view_of, EachEntry}
 use Rattle.list_laws.specs.Calls.{Call, counts, occurrences}
-use Rattle.list_laws.proofs.Distinct.{Distinct, changed_distinct, appended_distinct}
-use Rattle.list_laws.proofs.Tallies.{Tallied, tally_counted, tally_kept, tally_new, tally_none}
+use Rattle.list_laws.proofs.Distinct.{Distinct}
+use Rattle.list_laws.proofs.Tallies.{Tallied}
 use Rattle.list_laws.proofs.Carried.{Carried, call_carries}
+use Rattle.list_laws.proofs.Law.{Lawful, lawful_carried}
 use Rattle.table.specs.Challenges.{challenges_of}
 use Rattle.sums.proofs.PlainSums.{sum_x}
 use Rattle.client_sum.specs.Client.{client_sum}
@@ -101,17 +102,6 @@ fresh_kept P r s f h = record {
 }
 
 -- ---- request 6
-
-abbrev Lawful : View → List U32TableEntry → Type 0
-Lawful v es = Distinct v × Tallied v es
-
-lawful_carried : Carried Lawful
-lawful_carried = record {
-  counted = λ a b i g es m r s. (changed_distinct r s.0, tally_counted s.0 s.1 r);
-  kept = λ a b i g es r s. (changed_distinct r s.0, tally_kept s.1 r);
-  new = λ a b k g es f u r s. (appended_distinct r u s.0, tally_new s.1 r u);
-  none = λ a b k g es f u r s. (appended_distinct r u s.0, tally_none s.1 r u);
-}
 
 -- a key that the other brought was not counted
 tally_longer : (a b : View) (es : List U32TableEntry) → Longer a b → Distinct b → Tallied a es → Tallied b es

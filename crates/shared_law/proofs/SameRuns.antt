@@ -9,12 +9,12 @@ use native.Mathlib.Decide.{dec_lt}
 use native.Mathlib.Omega.{arith}
 use lib.Dec.{eqb}
 use lib.ListN.{length, get_or}
-use borrow.Author.Tests.{ne_eqb}
+use Rattle.std.proofs.lemmas.List.{nil_from_length}
 use Rattle.words.specs.Answers.{Answer, done, declined}
 use Rattle.words.specs.Outcomes.{Outcome, outcome}
-use Rattle.words.specs.Refusals.{refusal_number, Judgement, Fine, Declined}
+use Rattle.words.specs.Refusals.{Judgement, Fine, Declined}
 use Rattle.words.specs.declared.Refusal.{Refusal}
-use Rattle.words.proofs.Answers.{number_positive}
+use Rattle.words.proofs.Answers.{not_done}
 use Rattle.words.proofs.Outcomes.{outcome_fine}
 use Rattle.xfield.specs.Extension.{Ext, zero_x}
 use Rattle.list.specs.Heights.{list_height}
@@ -40,15 +40,8 @@ outcome_answer : {L : Type 0} (j : Judgement) (v : List ℕ) (l m x y : L) → (
 outcome_answer Fine v l m x y = refl
 outcome_answer (Declined k) v l m x y = refl
 
-not_done : (k : Refusal) → eqb (refusal_number k) 0 ≡ false
-not_done k = ne_eqb (refusal_number k) 0 (λ z. omega (arith, number_positive k))
-
 refused_ends : (k : Refusal) (rest : List Answer) → and_then (declined k) rest ≡ declined k ∷ []
 refused_ends k rest = rw (not_done k)
-
-empty : {A : Type 0} (xs : List A) → length xs ≡ 0 → xs ≡ []
-empty [] z = refl
-empty (x ∷ xs) z = absurd (omega arith)
 
 -- ---- one list
 
@@ -102,7 +95,7 @@ module _ (h : HeldList) (table aux challenges : List ℕ) where
       unfolding table_words
       padded_none z =
           let f = fill_done h table height (fill_answer h table fine) in
-          padded_is f ∙ ap table_words (empty (final_rows f) (final_count f ∙ z))
+          padded_is f ∙ ap table_words (nil_from_length (final_rows f) (final_count f ∙ z))
 
       check_none : row_count table ≡ 0
           → check_all padded (extend_all padded aux challenges).left challenges

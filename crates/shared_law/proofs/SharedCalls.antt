@@ -12,8 +12,8 @@ use lib.ListN.{length, get_or, replicate, length-replicate, get_or-replicate}
 use lib.Seq.{sets, length-sets}
 use borrow.Author.Tests.{eqb-true, eqb-false, eq-eqb}
 use Rattle.words.specs.Limits.{multiplicity_limit}
-use Rattle.words.specs.Outcomes.{Outcome, outcome}
-use Rattle.words.specs.Refusals.{Judgement, Fine, Declined}
+use Rattle.words.specs.Outcomes.{Outcome}
+use Rattle.words.specs.Refusals.{Fine}
 use Rattle.words.specs.declared.Refusal.TheVariants.{Shape}
 use Rattle.words.proofs.Judgements.{decline_not_true}
 use Rattle.words.proofs.Sets.{get_d_sets_below, get_d_sets_in}
@@ -23,8 +23,9 @@ use Rattle.list.specs.declared.Sizes.{Sizes}
 use Rattle.list.specs.Lists.{capacity, used, key_at, entry_at, multiplicity_at}
 use Rattle.list.specs.Holds.{HeldList, held_list, hold_at}
 use Rattle.list.proofs.HeldLists.{HeldShaped}
-use Rattle.list_record.specs.Recording.{record_all, record_each, settled}
-use Rattle.list_record.specs.Holding.{confirm_reason, confirm_all, drop_reason, drop_all}
+use Rattle.list_record.specs.Recording.{record_all, record_each}
+use Rattle.list_record.specs.Holding.{confirm_all, drop_all}
+use Rattle.list_record.proofs.HoldingCases.{confirm_sizes, drop_sizes}
 use Rattle.list_record.proofs.RecordEach.{number_of, each_accepted, each_refused}
 use Rattle.list_record.proofs.Views.{View, Changed, EachPlace, changed_each, appended_each}
 use Rattle.list_record.proofs.RecordViews.{view_of, PlaceAdmitted}
@@ -48,18 +49,6 @@ each_capacity h (e ∷ es) = go (each_capacity (record_all h e).left es) (eqb (n
       → (t : Bool) → eqb (number_of (record_all h e)) 0 ≡ t → capacity (record_each h (e ∷ es)).left.list ≡ capacity h.list
   go rest true q = rw (each_accepted h e es (eqb-true _ _ q)) (rest ∙ record_capacity 1 0 h e)
   go rest false q = rw (each_refused h e es (eqb-false _ _ q)) (record_capacity 1 0 h e)
-
-settled_sizes : (j : Judgement) (h : HeldList) (i c g : ℕ) → (outcome j [] h (settled h i c g)).left.list.sizes ≡ h.list.sizes
-settled_sizes Fine h i c g = refl
-settled_sizes (Declined k) h i c g = refl
-
-confirm_sizes : (h : HeldList) (i : ℕ) → (confirm_all h i).left.list.sizes ≡ h.list.sizes
-unfolding confirm_all
-confirm_sizes h i = settled_sizes (confirm_reason h i) h i (multiplicity_at h.list i + 1) (hold_at h i - 1)
-
-drop_sizes : (h : HeldList) (i : ℕ) → (drop_all h i).left.list.sizes ≡ h.list.sizes
-unfolding drop_all
-drop_sizes h i = settled_sizes (drop_reason h i) h i (multiplicity_at h.list i) (hold_at h i - 1)
 
 pub call_capacity : (h : HeldList) (c : Call) → capacity (call_all h c).left.list ≡ capacity h.list
 unfolding call_all

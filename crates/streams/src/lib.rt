@@ -2,7 +2,7 @@
 // error. Lines of a program's own for standard error.
 #![tactic(auto)]
 
-ghost use Rattle.std.specs.Prelude.{OnOk};
+ghost use Rattle.std.specs.Prelude.{◌≡◌, true, OnOk};
 ghost use Rattle.std.specs.Io.KnownBytes.{Appends};
 ghost use Rattle.streams.specs.Streams.{FilledIn, TakenFrom};
 
@@ -66,6 +66,15 @@ pub fn write_all<W: Write>(output: &mut W, bytes: &[u8]) -> Result<(), Failure>
     ensures { OnOk result (Appends (W.contents output.old) (W.contents output.new) bytes.now) }
 {
     output.write_all(bytes).map_err(Failure::Output)
+}
+
+// Writes all of the bytes, or says on standard error why not; answers whether they are written.
+pub fn write_or_tell<W: Write, E: Write>(output: &mut W, errors: &mut E, bytes: &[u8]) -> bool
+    ensures { result ≡ true → Appends (W.contents output.old) (W.contents output.new) bytes.now }
+{
+    write_all(output, bytes)
+        .map_err(|failure| tell(errors, &failure))
+        .is_ok()
 }
 
 // Says on standard error, in a line, what failed. Where that fails, there is no place left to say so.

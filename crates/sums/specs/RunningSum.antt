@@ -1,6 +1,6 @@
 -- The running sum (document 01, "Extension"), of any summands: those of a table's rows are in LookupSum.antt.
-use Rattle.std.specs.Prelude.{ℕ, zero, suc, ◌<◌, ◌≡◌, Bool, true, not, cond, ◌&&◌, ◌||◌, List, [], ◌∷◌, ◌++◌, eqb}
-use Rattle.xfield.specs.Extension.{Ext, zero_x, add_x, scale_x, is_zero_x}
+use Rattle.std.specs.Prelude.{ℕ, zero, suc, ◌<◌, ◌≡◌, Bool, true, not, cond, ◌&&◌, ◌||◌, List, [], ◌++◌, eqb}
+use Rattle.xfield.specs.Extension.{Ext, words_x, zero_x, add_x, scale_x, is_zero_x}
 use Rattle.xfield.specs.Inverses.{inv_x}
 
 -- what a row, or another that counts, brings to the sum
@@ -20,7 +20,7 @@ running_sum summands (suc n) = add_summand (running_sum summands n) (summands n)
 
 -- the three words of an element
 abbrev pub element_words : Ext → List ℕ
-element_words x = x.a ∷ x.b ∷ x.c ∷ []
+element_words x = words_x x
 
 -- "Each row stores the sum so far, three words": the words of the first n sums
 unfoldable pub sum_words : (ℕ → Summand) → ℕ → List ℕ

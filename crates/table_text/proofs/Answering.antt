@@ -1,7 +1,7 @@
 -- The text that is due after extension, after the check and at the end of a table's text: from what each call's contract says of its answer,
 -- and the text that was put then. Assumes nothing.
 use Prim.Native.Nat.{ℕ}
-use mathlib.Core.Path.{◌≡◌, refl}
+use mathlib.Core.Path.{◌≡◌, refl, ap, ◌∙◌}
 use mathlib.Core.List.{List, [], ◌∷◌}
 use native.Mathlib.Omega.{arith}
 use lib.ListN.{length}
@@ -20,45 +20,51 @@ use Rattle.check_search.specs.Finds.{group_number}
 use Rattle.check_table.specs.Verdicts.{Verdict, verdict_answer}
 use Rattle.text.specs.Lines.{verdict_line, refused_line, field_line}
 use Rattle.text.specs.declared.Text.{Text}
-use Rattle.text.specs.Put.{HasRoom, Adds}
+use Rattle.text.specs.Put.{Put, HasRoom, Adds}
 use Rattle.text.proofs.Lengths.{field_length, verdict_bound}
-use Rattle.text.proofs.Adding.{adds_then, reached}
+use Rattle.text.proofs.Adding.{reached}
+use Rattle.text.proofs.Putting.{put_then}
 use Rattle.transcript.specs.Transcript.{unless_refused}
-use Rattle.transcript.proofs.Steps.{reason_not_zero}
+use Rattle.words.proofs.Answers.{not_done}
 use Rattle.names.specs.Names.{name_of}
 use Rattle.names.proofs.Named.{name_bound}
 use Rattle.std.specs.Prelude.{Result, Ok, Err, Option, Some, None}
 use Rattle.numbers.specs.declared.Fault.{Fault}
-use Rattle.table_text.specs.TableText.{Stage, end_number, taken_of}
-use Rattle.table_text.specs.Answers.{verdict_lines, verdict_text, taken_text, answer_text, max_answer}
+use Rattle.table_text.specs.TableText.{Stage, end_number, taken_of, IsFed}
+use Rattle.table_text.specs.Answers.{verdict_lines, verdict_due, verdict_text, taken_text, answer_text, max_answer}
 
-module _ {old new : Text} where
-  refused : {due : Answer} (text : List ℕ) (reason : Refusal) → declined reason ≡ due
-      → Adds old (refused_line (refusal_number reason)) new → Adds old (unless_refused due text) new
-  unfolding unless_refused
-  refused text reason e p = rw (← e, reason_not_zero reason) p
+refused : {due : Answer} (text : List ℕ) (reason : Refusal) → declined reason ≡ due → unless_refused due text ≡ refused_line (refusal_number reason)
+unfolding unless_refused
+refused text reason e = rw (← e, not_done reason)
 
-  made : {due : Answer} (text vs : List ℕ) → done vs ≡ due → Adds old text new → Adds old (unless_refused due text) new
-  unfolding unless_refused
-  made text vs e p = rw (← e) p
+made : {due : Answer} (text vs : List ℕ) → done vs ≡ due → unless_refused due text ≡ text
+unfolding unless_refused
+made text vs e = rw (← e)
 
 -- ---- the check
-abbrev due : Verdict → List ℕ
-due v = unless_refused (verdict_answer v) (verdict_lines (verdict_answer v).values)
+-- the verdict after its name, wherever they stand in a buffer
+module _ {d d1 : List ℕ} {at r : ℕ} (v : Verdict) where
+  pub verdict_nonzero : {d2 : List ℕ} {a : ℕ} (found : Nonzero) → v ≡ Ok (Some found)
+      → Put d at (field_line (name_of (group_number found.group) found.index)) d2 a
+      → Put d2 a (verdict_line (group_number found.group ∷ found.row ∷ found.index ∷ element_words (ext_of found.value))) d1 r → Put d at (verdict_due v) d1 r
+  unfolding unless_refused verdict_lines
+  verdict_nonzero found e p q = rw e (put_then p q)
 
 module _ {old new : Text} where
-  pub verdict_refused : (reason : Refusal) {v : Verdict} → v ≡ Err reason → Adds old (refused_line (refusal_number reason)) new → Adds old (due v) new
-  verdict_refused reason e p = rw e (refused _ reason refl p)
+  pub verdict_refused : (reason : Refusal) {v : Verdict} → v ≡ Err reason → Adds old (refused_line (refusal_number reason)) new → Adds old (verdict_due v) new
+  verdict_refused reason e p = rw (e, refused _ reason refl) p
 
-  pub found_none : {o : Option Nonzero} → o ≡ None → Adds old (verdict_line []) new → Adds old (due (Ok o)) new
+  pub found_none : {o : Option Nonzero} → o ≡ None → Adds old (verdict_line []) new → Adds old (verdict_due (Ok o)) new
   unfolding verdict_lines
-  found_none e p = rw e (made _ [] refl p)
+  found_none e p = rw (e, made _ [] refl) p
 
   pub found_some : {mid : Text} (found : Nonzero) {o : Option Nonzero} {group : ℕ} → o ≡ Some found → group ≡ group_number found.group
       → Adds old (field_line (name_of group found.index)) mid
-      → Adds mid (verdict_line (group ∷ found.row ∷ found.index ∷ element_words (ext_of found.value))) new → Adds old (due (Ok o)) new
-  unfolding verdict_lines
-  found_some found e is p q = rw (e, ← is) (made _ _ refl (adds_then p q))
+      → Adds mid (verdict_line (group ∷ found.row ∷ found.index ∷ element_words (ext_of found.value))) new → Adds old (verdict_due (Ok o)) new
+  found_some {mid} found {o} e is p q = record {
+    put = verdict_nonzero (Ok o) {d2 = mid.out.now} {a = mid.len} found (ap Ok e) (rw (← is) p.put) (rw (← is) q.put);
+    same = q.same ∙ p.same;
+  }
 
 -- there is room for the verdict after a name
 pub nonzero_fits : {old mid : Text} (group row index a b c : ℕ) → HasRoom old max_answer → Adds old (field_line (name_of group index)) mid
@@ -68,21 +74,21 @@ nonzero_fits group row index a b c h p =
     omega (arith, r.len, r.size, h, field_length (name_of group index), name_bound group index, verdict_bound (group ∷ row ∷ index ∷ a ∷ b ∷ c ∷ []))
 
 -- ---- extension, then the check
-module _ {old new : Text} (challenges table aux : List ℕ) where
-  pub extension_refused : (reason : Refusal) (after : List ℕ) → Leaves (extend_all table aux challenges) (extended_answer (Err reason)) after
-      → Adds old (refused_line (refusal_number reason)) new → Adds old (verdict_text challenges table aux) new
+module _ (challenges table aux : List ℕ) where
+  pub extension_refused : (reason : Refusal) (after : List ℕ) {v : Verdict} → v ≡ Err reason
+      → Leaves (extend_all table aux challenges) (extended_answer (Err reason)) after → verdict_due v ≡ verdict_text challenges table aux
   unfolding verdict_text
-  extension_refused reason after e p = refused _ reason e.answer p
+  extension_refused reason after is e = rw (is, refused _ reason refl, refused _ reason e.answer)
 
   pub extension_made : (sum : XFieldElement) (after : List ℕ) (v : Verdict)
       → Leaves (extend_all table aux challenges) (extended_answer (Ok sum)) after → verdict_answer v ≡ check_all table after challenges
-      → Adds old (due v) new → Adds old (verdict_text challenges table aux) new
+      → verdict_due v ≡ verdict_text challenges table aux
   unfolding verdict_text
-  extension_made sum after v e k p = made _ (element_words (ext_of sum)) e.answer (rw (← e.left, ← k) p)
+  extension_made sum after v e k = rw (made _ (element_words (ext_of sum)) e.answer, ← e.left, ← k)
 
 -- ---- the end of a text
-module _ {old new : Text} (stage : Stage) (words aux : List ℕ) {after : List ℕ} (left : after ≡ (end_number stage words).words)
-    (taken : Result ℕ Fault) (judged : taken ≡ taken_of (end_number stage words).stage) where
+module _ {old new : Text} (stage : Stage) (words aux : List ℕ) {end : Stage} {after : List ℕ} (ended : IsFed (end_number stage words) end after)
+    (taken : Result ℕ Fault) (judged : taken ≡ taken_of end) where
   pub answer_put : (is : Result ℕ Fault) → taken ≡ is → Adds old (taken_text is after aux) new → Adds old (answer_text stage words aux) new
   unfolding answer_text
-  answer_put is e p = rw (← left, ← judged, e) p
+  answer_put is e p = rw (← ended.stage, ← ended.words, ← judged, e) p

@@ -3,26 +3,28 @@
 #![tactic(auto)]
 
 ghost use Rattle.std.specs.Prelude.{◌*◌, ◌≤◌, ◌≡◌, length, replicate, IfOk, Ok};
-ghost use Rattle.table_text.specs.TableText.{max_words, Fits, Within, start_stage, takes, end_number, taken_of};
-ghost use Rattle.table_text.specs.Answers.{max_answer, verdict_lines, verdict_text, taken_text, answer_text};
+ghost use Rattle.table_text.specs.TableText.{max_words, Fits, Within, start_stage, takes, taken_of};
+ghost use Rattle.table_text.specs.Answers.{max_answer, verdict_due, verdict_text, taken_text, fault_line, answer_text};
 ghost use Rattle.table_text.specs.TableText.{most_rows};
-ghost use Rattle.check_table.specs.Verdicts.{verdict_answer};
 ghost use Rattle.text.specs.Put.{Put, HasRoom, Adds};
-ghost use Rattle.transcript.specs.Transcript.{unless_refused};
 
 use check_search::Nonzero;
 use check_table::Verdict;
-use numbers::{Fault, Reader, Sheet};
+use numbers::{Answered, Fault, Reader, Sheet};
+use table::{AuxRow, Challenges, MainRow};
 use text::Text;
 
 // The place of the number of rows among the numbers.
-pub const ROWS_AT: usize = 15;
+pub const ROWS_AT: usize = Challenges::WIDTH;
 
 // Numbers before those of the rows.
-pub const HEAD: usize = 16;
+pub const HEAD: usize = ROWS_AT + 1;
 
 // More rows are not taken.
 pub const MAX_ROWS: u64 = 16384;
+
+// No answer is longer.
+pub const MAX_ANSWER: usize = 256;
 
 // The numbers of a table's text: so many so far, of so many that are due.
 #[derive(Clone, Copy)]
@@ -31,6 +33,8 @@ pub struct TableSheet {
     pub due: usize,
 }
 
+// `Fits`, that the numbers due have places, is no ghost field of the sheet: `judge_end` takes any sheet, and each definition that makes a sheet would
+// have a proof in it.
 impl Sheet for TableSheet {
     ghost room = { max_words };
 
@@ -52,7 +56,7 @@ impl Sheet for TableSheet {
             words[count] = value;
             return Ok(TableSheet {
                 count: HEAD,
-                due: HEAD + 10 * value as usize,
+                due: HEAD + MainRow::WIDTH * value as usize,
             });
         }
         words[count] = value;
@@ -67,42 +71,34 @@ impl Sheet for TableSheet {
 pub fn start() -> Reader<TableSheet>
     ensures { Ok result ≡ start_stage }
 {
-    Reader {
-        place: numbers::start(),
-        sheet: TableSheet {
-            count: 0,
-            due: HEAD,
-        },
-    }
+    Reader::new(TableSheet {
+        count: 0,
+        due: HEAD,
+    })
 }
 
-// What a text is that ended here: a table of so many rows, where no number is missing. The end of the text ends a number too.
-pub fn judge_end(
-    stage: Result<Reader<TableSheet>, Fault>,
-    words: &mut [u64],
-) -> Result<usize, Fault>
-    requires { (max_words ≤ length words.old) × Within stage }
-    ensures taken { result ≡ taken_of (end_number stage words.old).stage }
-    ensures words { words.new ≡ (end_number stage words.old).words }
-    ensures few { IfOk result (λ rows. rows ≤ most_rows) }
+// What a text is that ended so: a table of so many rows, where no number is missing.
+pub fn judge_end(ended: Result<Reader<TableSheet>, Fault>) -> Result<usize, Fault>
+    ensures taken { result ≡ taken_of ended }
+    ensures few { Within ended → IfOk result (λ rows. rows ≤ most_rows) }
 {
-    let ended = numbers::end_number(stage?, words)?;
-    let count = ended.sheet.count;
-    let due = ended.sheet.due;
+    let reader = ended?;
+    let count = reader.sheet.count;
+    let due = reader.sheet.due;
     if count < due {
-        return Err(Fault::Malformed(ended.place.line));
+        return Err(Fault::Malformed(reader.place.line));
     }
     if due < HEAD {
-        return Err(Fault::Malformed(ended.place.line));
+        return Err(Fault::Malformed(reader.place.line));
     }
-    Ok((due - HEAD) / 10)
+    Ok((due - HEAD) / MainRow::WIDTH)
 }
 
 // ---- the answer
 // The text of a table that was checked: where a constraint is not zero, its name stands first.
 fn put_found(text: &mut Text, found: Option<Nonzero>)
     requires { HasRoom text.old max_answer }
-    ensures { Adds text.old (unless_refused (verdict_answer (Ok found)) (verdict_lines (verdict_answer (Ok found)).values)) text.new }
+    ensures { Adds text.old (verdict_due (Ok found)) text.new }
 {
     match found {
         None => text.put_zero(),
@@ -122,7 +118,7 @@ fn put_found(text: &mut Text, found: Option<Nonzero>)
 // The text after a check.
 fn put_verdict(text: &mut Text, verdict: Verdict)
     requires { HasRoom text.old max_answer }
-    ensures { Adds text.old (unless_refused (verdict_answer verdict) (verdict_lines (verdict_answer verdict).values)) text.new }
+    ensures { Adds text.old (verdict_due verdict) text.new }
 {
     match verdict {
         Err(reason) => text.put_refused(reason),
@@ -130,55 +126,86 @@ fn put_verdict(text: &mut Text, verdict: Verdict)
     }
 }
 
+// Extends a table, and checks it.
+fn judged(challenges: &[u64], table: &[u64], aux: &mut [u64]) -> Verdict
+    ensures { verdict_due result ≡ verdict_text challenges.now table.now aux.old }
+{
+    extend::extend(table, aux, challenges)?;
+    check_table::check(table, aux, challenges)
+}
+
 // Extends and checks a table, and puts what was found.
 pub fn verdict_text(text: &mut Text, challenges: &[u64], table: &[u64], aux: &mut [u64])
     requires { HasRoom text.old max_answer }
     ensures { Adds text.old (verdict_text challenges.now table.now aux.old) text.new }
 {
-    match extend::extend(table, aux, challenges) {
-        Err(reason) => text.put_refused(reason),
-        Ok(_) => put_verdict(text, check_table::check(table, aux, challenges)),
-    }
+    put_verdict(text, judged(challenges, table, aux))
+}
+
+// Words lent for the numbers of a text and for the sums of its rows.
+#[derive(Drop)]
+pub struct Lent<'a> {
+    pub words: &'a mut [u64],
+    pub aux: &'a mut [u64],
+    pub ghost room: { (max_words ≤ length words.now) × (3 * most_rows ≤ length aux.now) },
 }
 
 // The answer for a text that has a table of so many rows.
-fn put_table(text: &mut Text, words: &[u64], rows: usize, aux: &mut [u64])
-    requires { (max_words ≤ length words.now) × (3 * most_rows ≤ length aux.old) × HasRoom text.old max_answer × (rows ≤ most_rows) }
-    ensures { Adds text.old (taken_text (Ok rows) words.now aux.old) text.new }
+fn put_table(text: &mut Text, lent: &mut Lent, rows: usize)
+    requires { HasRoom text.old max_answer × (rows ≤ most_rows) }
+    ensures { Adds text.old (taken_text (Ok rows) lent.old.words.now lent.old.aux.now) text.new }
 {
-    let to = HEAD + 10 * rows;
-    let sums = 3 * rows;
+    let to = HEAD + MainRow::WIDTH * rows;
+    let sums = AuxRow::WIDTH * rows;
+    let words = &*lent.words;
+    let aux = &mut *lent.aux;
     verdict_text(text, &words[..ROWS_AT], &words[HEAD..to], &mut aux[..sums])
 }
 
-// The answer for a text that ended here, with words for the sums.
-fn put_ended(
-    text: &mut Text,
-    stage: Result<Reader<TableSheet>, Fault>,
-    words: &mut [u64],
-    aux: &mut [u64],
-)
-    requires { (max_words ≤ length words.old) × (3 * most_rows ≤ length aux.old) × HasRoom text.old max_answer × Within stage }
-    ensures { Adds text.old (answer_text stage words.old aux.old) text.new }
+// Puts the line of what speaks against a text.
+pub fn put_fault(text: &mut Text, fault: Fault)
+    requires { HasRoom text.old max_answer }
+    ensures { Adds text.old (fault_line fault) text.new }
 {
-    match judge_end(stage, words) {
-        Err(Fault::Malformed(line)) => text.put_malformed(line),
-        Err(Fault::TooMany(rows)) => text.put_too_many(rows, MAX_ROWS),
-        Ok(rows) => put_table(text, words, rows, aux),
+    match fault {
+        Fault::Malformed(line) => text.put_malformed(line),
+        Fault::TooMany(rows) => text.put_too_many(rows, MAX_ROWS),
     }
 }
 
-// The answer for a text that ended here, at the front of `out`; answers its length.
-pub fn put_answer(
-    stage: Result<Reader<TableSheet>, Fault>,
-    words: &mut [u64],
-    out: &mut [u8],
-) -> usize
-    requires { (max_words ≤ length words.old) × (max_answer ≤ length out.old) × Within stage }
-    ensures { Put out.old 0 (answer_text stage words.old (replicate (3 * most_rows) 0)) out.new result }
+// The answer for a text that ended here.
+fn put_ended(text: &mut Text, stage: Result<Reader<TableSheet>, Fault>, lent: &mut Lent)
+    requires { HasRoom text.old max_answer × Within stage }
+    ensures { Adds text.old (answer_text stage lent.old.words.now lent.old.aux.now) text.new }
 {
-    let mut aux = [0u64; 49152];
-    let mut text = Text::new(out);
-    put_ended(&mut text, stage, words, &mut aux);
-    text.len()
+    let ended = numbers::end_number(stage, lent.words);
+    match judge_end(ended) {
+        Err(fault) => put_fault(text, fault),
+        Ok(rows) => put_table(text, lent, rows),
+    }
+}
+
+impl Answered for TableSheet {
+    ghost longest = { max_answer };
+
+    ghost answer = { λ stage words. answer_text stage words (replicate (3 * most_rows) 0) };
+
+    // The sums begin as 0. The clauses stand here again: the check can't give this method those of its trait.
+    fn put_answer(
+        stage: Result<Reader<TableSheet>, Fault>,
+        words: &mut [u64],
+        out: &mut [u8],
+    ) -> usize
+        requires { (max_words ≤ length words.old) × (max_answer ≤ length out.old) × Within stage }
+        ensures { Put out.old 0 (answer_text stage words.old (replicate (3 * most_rows) 0)) out.new result }
+    {
+        let mut aux = [0u64; AuxRow::WIDTH * MAX_ROWS as usize];
+        let mut text = Text::new(out);
+        let mut lent = Lent {
+            words,
+            aux: &mut aux,
+        };
+        put_ended(&mut text, stage, &mut lent);
+        text.len()
+    }
 }

@@ -2,11 +2,10 @@
 -- then. Assumes nothing.
 use Prim.Native.Nat.{ℕ, zero, suc, ◌-◌, ◌*◌, ◌≤◌, ◌<◌}
 use mathlib.Core.Path.{◌≡◌, refl, sym, ap, ◌∙◌}
-use mathlib.Core.Bool.{false}
-use mathlib.Core.List.{List, [], ◌∷◌, ◌++◌, map, append-nil}
+use mathlib.Core.List.{List, [], ◌∷◌, ◌++◌}
 use native.Mathlib.Omega.{arith}
-use borrow.Author.Tests.{ltb-false, lt-ltb, le-ltb, ne_eqb}
-use lib.Dec.{eqb, ltb}
+use borrow.Author.Tests.{ltb-false, lt-ltb, le-ltb}
+use lib.Dec.{ltb}
 use lib.ListN.{length, get_or, take, drop, length-replicate, length-drop}
 use lib.Seq.{sets, length-sets, take_all}
 use Rattle.std.specs.Prelude.{Option, None, Some, Result, Ok, Err}
@@ -15,12 +14,9 @@ use Rattle.words.specs.Outcomes.{Outcome, Leaves, answered}
 use Rattle.words.specs.Refusals.{refusal_number, Judgement, Fine, Declined}
 use Rattle.words.specs.declared.Refusal.{Refusal}
 use Rattle.words.specs.declared.Refusal.TheVariants.{Shape, Short, Torn}
-use Rattle.words.specs.Places.{places}
-use Rattle.words.proofs.Answers.{number_positive}
+use Rattle.words.proofs.Answers.{not_done}
 use Rattle.words.proofs.Judgements.{decline_true, decline_false, decline_fine}
 use Rattle.words.proofs.Outcomes.{outcome_fine, leaves_done, leaves_declined, done_fine}
-use Rattle.words.proofs.Sets.{sets_front}
-use Rattle.words.proofs.Places.{length-map}
 use Rattle.xfield.specs.declared.XFieldElement.{XFieldElement}
 use Rattle.xfield.specs.XFieldElements.{ext_of}
 use Rattle.list.specs.Lists.{used}
@@ -29,7 +25,6 @@ use Rattle.list.specs.Heights.{list_height}
 use Rattle.list.specs.Holds.{HeldList, section_list, judge_held}
 use Rattle.list_record.specs.Plan.{padded_height, plan_all, planned_answer}
 use Rattle.table.specs.Columns.{main_width, aux_width}
-use Rattle.table.specs.Challenges.{challenge_words}
 use Rattle.air.specs.Check.{nonzero, check_all}
 use Rattle.check_search.specs.declared.Nonzero.{Nonzero}
 use Rattle.check_search.specs.Finds.{group_number}
@@ -55,13 +50,10 @@ pub text_made : {a : Answer} (text vs : List ℕ) → a ≡ done vs → unless_r
 unfolding unless_refused
 text_made text vs e = rw e
 
-pub reason_not_zero : (reason : Refusal) → eqb (refusal_number reason) 0 ≡ false
-reason_not_zero reason = ne_eqb (refusal_number reason) 0 (λ e. omega (arith, number_positive reason))
-
 module _ {due : Answer} (text : List ℕ) where
   refused : (reason : Refusal) → declined reason ≡ due → unless_refused due text ≡ refused_line (refusal_number reason)
   unfolding unless_refused
-  refused reason e = rw (← e, reason_not_zero reason)
+  refused reason e = rw (← e, not_done reason)
 
   made : (vs : List ℕ) → done vs ≡ due → unless_refused due text ≡ text
   unfolding unless_refused
@@ -239,9 +231,3 @@ take_zeros (suc n) (suc m) h = ap (λ (l : List ℕ). 0 ∷ l) (take_zeros n m (
 
 pub length_zeros : (n m : ℕ) → n ≤ m → length (take n (zeros m)) ≡ n
 length_zeros n m h = ap length (take_zeros n m h) ∙ length-replicate n 0
-
--- fifteen words that are stored one by one
-pub fifteen : (m : ℕ → ℕ) → sets (zeros challenge_words) 0 (map m (places challenge_words)) ≡ map m (places challenge_words)
-fifteen m =
-    let e = length-map m 0 challenge_words in
-    sets_front (map m (places challenge_words)) (zeros challenge_words) (omega arith) ∙ rw e (append-nil _)

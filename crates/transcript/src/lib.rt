@@ -17,6 +17,7 @@ use check_search::Nonzero;
 use isa::U32TableEntry;
 use list::{LentList, LentListMut, Sizes};
 use list_record::{Heights, MAX_PLACES};
+use std::array;
 use table::{AuxRow, Challenges, MainRow};
 use text::{Head, Text};
 use words::Refusal;
@@ -53,10 +54,8 @@ fn put_rows(text: &mut Text, table: &[u64], n: usize)
     requires { (n ≤ max_printed_rows) × (main_width * n ≤ length table.now) × HasRoom text.old (210 * n) }
     ensures { Adds text.old (row_lines table.now n) text.new }
 {
-    for row in 0..n {
-        let from = MainRow::WIDTH * row;
-        let to = from + MainRow::WIDTH;
-        text.put_row(&table[from..to]);
+    for row in table[..MainRow::WIDTH * n].chunks_exact(MainRow::WIDTH) {
+        text.put_row(row);
     }
 }
 
@@ -193,11 +192,7 @@ fn challenges_in(input: &[u8]) -> [u64; Challenges::WIDTH]
     requires { challenge_bytes ≤ length input.now }
     ensures { result ≡ input_challenges input.now }
 {
-    let mut challenges = [0u64; Challenges::WIDTH];
-    for i in 0..Challenges::WIDTH {
-        challenges[i] = words::word_at(input, 8 * i);
-    }
-    challenges
+    array::from_fn(|i| words::word_at(input, 8 * i))
 }
 
 // Puts the text for these input bytes.
@@ -220,9 +215,8 @@ fn put_transcript(text: &mut Text, input: &[u8])
     requires { HasRoom text.old max_text }
     ensures { Adds text.old (transcript_of input.now) text.new }
 {
-    match put_input(text, input) {
-        Ok(()) => {}
-        Err(reason) => text.put_refused(reason),
+    if let Err(reason) = put_input(text, input) {
+        text.put_refused(reason);
     }
 }
 

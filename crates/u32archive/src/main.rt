@@ -7,16 +7,13 @@ ghost use Rattle.std.specs.Prelude.{◌+◌, ◌*◌, ◌≤◌, length};
 ghost use Rattle.table_text.specs.TableText.{max_words, most_rows};
 ghost use Rattle.archive_text.specs.Packing.{max_archive};
 
-use archive_text::Task;
+use archive_text::{MAX_FAULT_LINE, MAX_ROW_LINE, TABLE_WORDS, Task};
 use std::env::{Env, FillError};
 use std::io::{Read, Write};
 use streams::Failure;
 
-// The words of the most rows.
-const TABLE_WORDS: usize = 163840;
-
-// So many rows are printed at a time: their lines fit the buffer.
-const PART_ROWS: usize = 240;
+// So many rows are printed at a time: their lines fit a buffer of 65,536 bytes.
+const PART_ROWS: usize = 65536 / MAX_ROW_LINE;
 
 // What a program reads and writes.
 #[derive(Drop)]
@@ -26,39 +23,44 @@ struct Streams<R, W, E> {
     errors: E,
 }
 
+// Room for the words of a text or of a table, for the sums of its rows, and for the bytes of its archive.
+#[derive(Drop)]
+struct Room<'a> {
+    words: &'a mut [u64],
+    aux: &'a mut [u64],
+    bytes: &'a mut [u8],
+    ghost enough: { (max_words ≤ length words.now) × (3 * most_rows ≤ length aux.now) × (max_archive ≤ length bytes.now) },
+}
+
 // Reads the text of a table and writes the archive.
 fn pack<R: Read, W: Write, E: Write>(
     streams: &mut Streams<R, W, E>,
-    words: &mut [u64],
-    aux: &mut [u64],
-    bytes: &mut [u8],
-) -> Result<(), Failure>
-    requires { (max_words ≤ length words.old) × (3 * most_rows ≤ length aux.old) × (max_archive ≤ length bytes.old) }
-{
-    let stage = table_input::read_text(table_text::start(), &mut streams.input, words)?;
-    match archive_text::pack(stage, words, aux, bytes) {
-        Err(n) => streams::write_error(&mut streams.errors, &bytes[..n]),
-        Ok(n) => streams::write_all(&mut streams.output, &bytes[..n])?,
+    room: &mut Room,
+) -> Result<(), Failure> {
+    let stage = table_input::read_text(table_text::start(), &mut streams.input, room.words)?;
+    match archive_text::pack(stage, room.words, room.aux, room.bytes) {
+        Err(n) => streams::write_error(&mut streams.errors, &room.bytes[..n]),
+        Ok(n) => streams::write_all(&mut streams.output, &room.bytes[..n])?,
     }
     Ok(())
 }
 
-// Prints so many rows, from one on.
-fn print_part<W: Write>(
-    output: &mut W,
+// Prints so many rows, from one on, or says on standard error why not.
+fn print_part<R, W: Write, E: Write>(
+    streams: &mut Streams<R, W, E>,
     table: &[u64],
     aux: &[u64],
     from: usize,
     rows: usize,
-) -> Result<(), Failure>
+)
     requires { (10 * (from + rows) ≤ length table.now) × (3 * (from + rows) ≤ length aux.now) × (rows ≤ 240) }
 {
     let mut out = io::large_buffer();
     let n = archive_text::put_rows(table, aux, from, rows, &mut out);
-    streams::write_all(output, &out[..n])
+    streams::write_or_tell(&mut streams.output, &mut streams.errors, &out[..n]);
 }
 
-// Prints the first rows. After a part that could not be written, which a line on standard error says, the next is tried.
+// Prints the first rows. After a part that could not be written the next is tried: a failure that passes costs no more than its part.
 fn print_rows<R, W: Write, E: Write>(
     streams: &mut Streams<R, W, E>,
     table: &[u64],
@@ -68,10 +70,7 @@ fn print_rows<R, W: Write, E: Write>(
     requires { (10 * rows ≤ length table.now) × (3 * rows ≤ length aux.now) }
 {
     for from in (0..rows).step_by(PART_ROWS) {
-        let some = PART_ROWS.min(rows - from);
-        if let Err(failure) = print_part(&mut streams.output, table, aux, from, some) {
-            streams::tell(&mut streams.errors, &failure);
-        }
+        print_part(streams, table, aux, from, PART_ROWS.min(rows - from));
     }
 }
 
@@ -84,7 +83,7 @@ fn unpack_bytes<R, W: Write, E: Write>(
 )
     requires { (10 * most_rows ≤ length table.old) × (3 * most_rows ≤ length aux.old) }
 {
-    let mut line = [0u8; 256];
+    let mut line = [0u8; MAX_FAULT_LINE];
     match archive_text::unpack(bytes, table, aux, &mut line) {
         Err(n) => streams::write_error(&mut streams.errors, &line[..n]),
         Ok(rows) => print_rows(streams, table, aux, rows),
@@ -94,42 +93,36 @@ fn unpack_bytes<R, W: Write, E: Write>(
 // Reads an archive and prints its rows.
 fn unpack<R: Read, W: Write, E: Write>(
     streams: &mut Streams<R, W, E>,
-    words: &mut [u64],
-    aux: &mut [u64],
-    bytes: &mut [u8],
-) -> Result<(), Failure>
-    requires { (max_words ≤ length words.old) × (3 * most_rows ≤ length aux.old) }
-{
-    let n = streams::read_full(&mut streams.input, bytes)?;
-    unpack_bytes(streams, &bytes[..n], &mut words[..TABLE_WORDS], aux);
+    room: &mut Room,
+) -> Result<(), Failure> {
+    let n = streams::read_full(&mut streams.input, room.bytes)?;
+    unpack_bytes(
+        streams,
+        &room.bytes[..n],
+        &mut room.words[..TABLE_WORDS],
+        room.aux,
+    );
     Ok(())
 }
 
 // What the arguments ask for: there is one.
 fn asked<V: Env>(environment: &V) -> Option<Task> {
     let mut argument = [0u8; 8];
-    match environment.arg(2, &mut argument) {
-        Err(FillError::NotPresent) => {}
-        _ => return None,
-    }
-    match environment.arg(1, &mut argument) {
-        Ok(n) => archive_text::asked(&argument[..n]),
-        Err(_) => None,
-    }
+    let Err(FillError::NotPresent) = environment.arg(2, &mut argument) else {
+        return None;
+    };
+    let n = environment.arg(1, &mut argument).ok()?;
+    archive_text::asked(&argument[..n])
 }
 
 fn run<R: Read, W: Write, E: Write>(
     task: Option<Task>,
     streams: &mut Streams<R, W, E>,
-    words: &mut [u64],
-    aux: &mut [u64],
-    bytes: &mut [u8],
-) -> Result<(), Failure>
-    requires { (max_words ≤ length words.old) × (3 * most_rows ≤ length aux.old) × (max_archive ≤ length bytes.old) }
-{
+    room: &mut Room,
+) -> Result<(), Failure> {
     match task {
-        Some(Task::Pack) => pack(streams, words, aux, bytes),
-        Some(Task::Unpack) => unpack(streams, words, aux, bytes),
+        Some(Task::Pack) => pack(streams, room),
+        Some(Task::Unpack) => unpack(streams, room),
         None => {
             streams::write_error(
                 &mut streams.errors,
@@ -150,7 +143,12 @@ fn main(rt: HostRuntime) {
         output: rt.stdout(),
         errors: rt.stderr(),
     };
-    if let Err(failure) = run(asked(&rt), &mut streams, &mut words, &mut aux, &mut bytes) {
+    let mut room = Room {
+        words: &mut words,
+        aux: &mut aux,
+        bytes: &mut bytes,
+    };
+    if let Err(failure) = run(asked(&rt), &mut streams, &mut room) {
         streams::tell(&mut streams.errors, &failure);
     }
 }

@@ -2,26 +2,20 @@
 // but the reading and the writing; where one of those fails, a line on standard error says so (`streams`).
 #![tactic(auto)]
 
-ghost use Rattle.std.specs.Prelude.{◌≤◌, length};
-ghost use Rattle.batch_text.specs.Sheet.{max_words};
-
-use std::io::{Read, Write};
-use streams::Failure;
-
-// Reads, tries each setting, and writes the table.
-fn run<R: Read, W: Write>(input: &mut R, output: &mut W, words: &mut [u64]) -> Result<(), Failure>
-    requires { max_words ≤ length words.old }
-{
-    let mut out = [0u8; 8192];
-    let stage = table_input::read_text(batch_text::start(), input, words)?;
-    let length = batch_text::put_answer(stage, words, &mut out);
-    streams::write_all(output, &out[..length])
-}
+use batch_text::{MAX_ANSWER, MAX_JOBS, MAX_SETTINGS};
 
 // 16 settings and 65,536 jobs.
 fn main(rt: HostRuntime) {
-    let mut words = [0u64; 65552];
-    if let Err(failure) = run(&mut rt.stdin(), &mut rt.stdout(), &mut words) {
+    let mut words = [0u64; MAX_SETTINGS + MAX_JOBS];
+    let mut out = [0u8; MAX_ANSWER];
+    let start = batch_text::start();
+    if let Err(failure) = table_input::answer(
+        start,
+        &mut rt.stdin(),
+        &mut rt.stdout(),
+        &mut words,
+        &mut out,
+    ) {
         streams::tell(&mut rt.stderr(), &failure);
     }
 }

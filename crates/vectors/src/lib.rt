@@ -153,7 +153,7 @@ pub fn same_first<T: PartialEq>(left: &[T], right: &[T], count: usize) -> bool
 pub fn read_full(reader: &mut impl Read, buf: &mut [u8]) -> usize
     ensures { IsPrefixLen result buf.new }
 {
-    // A loop of its own: std's reads into a slice do not say how many bytes came before an error or the end.
+    // A loop of its own: neither std's reads into a slice nor `streams::read_full` say how many bytes came before an error.
     let mut done = 0;
     while done < buf.len() {
         match reader.read(&mut buf[done..]) {
@@ -229,6 +229,7 @@ const DIFFER: usize = 31;
 
 const COUNTS: usize = KINDS * PLACES;
 
+// A kind is a number. As an enum, by Into<usize>, it would cost an impl of From in four programs, and clauses would speak of some number that it gives.
 #[derive(Clone, Copy)]
 pub struct Counts {
     pub places: [u64; COUNTS],
@@ -312,6 +313,7 @@ pub struct Run {
     pub left: usize,
 }
 
+// Each program prints its lines itself: what stands between the counts and the changed counts, and which are printed, differs from one to the next.
 impl Run {
     // Runs each line of a text as it is, and changed.
     fn lines<F: Fn(Numbers<'_>, &mut Counts)>(&mut self, text: &mut [u8], run: &F)

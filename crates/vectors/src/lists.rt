@@ -1,11 +1,13 @@
 // The lists of vectors: their arrays stand here, and are lent to the calls.
 ghost use Rattle.std.specs.Prelude.{◌≡◌, true, nat_eq, min, replicate};
 ghost use Rattle.arrayvec.specs.ArrayVec.{array_vec_len};
+ghost use Rattle.list.specs.Holds.{held_list};
+ghost use Rattle.list.specs.Lent.{held_in, held_in_mut};
 ghost use Rattle.vectors.specs.Same.{same_first};
 
 use crate::{Numbers, same_first};
 use arrayvec::ArrayVec;
-use list::Sizes;
+use list::{LentListMut, Sizes};
 
 // A list in arrays that have room for K words of keys, and for M multiplicities and holds.
 #[derive(Drop)]
@@ -82,5 +84,29 @@ impl<const K: usize, const M: usize> LentList<K, M> {
             && numbers.words_are(&self.keys)
             && numbers.words_are(&self.multiplicities)
             && same_first(&self.holds, &unheld, self.holds.len())
+    }
+
+    // The list as it is lent, to be looked at.
+    pub fn lend(&self) -> list::LentList<'_>
+        ensures { held_in result ≡ held_list self.now.sizes self.now.keys.items self.now.multiplicities.items self.now.holds.items }
+    {
+        list::LentList {
+            sizes: self.sizes,
+            keys: &self.keys,
+            multiplicities: &self.multiplicities,
+            holds: &self.holds,
+        }
+    }
+
+    // The same, to be changed; the sizes that a call leaves are in what was lent.
+    pub fn lend_mut(&mut self) -> LentListMut<'_>
+        ensures { held_in_mut result ≡ held_list self.old.sizes self.old.keys.items self.old.multiplicities.items self.old.holds.items }
+    {
+        LentListMut {
+            sizes: self.sizes,
+            keys: &mut self.keys,
+            multiplicities: &mut self.multiplicities,
+            holds: &mut self.holds,
+        }
     }
 }

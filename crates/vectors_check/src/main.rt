@@ -19,15 +19,17 @@ enum Found {
 
 const GROUPS: usize = 4;
 
-impl Found {
-    fn of(verdict: Verdict) -> Found {
+impl From<Verdict> for Found {
+    fn from(verdict: Verdict) -> Found {
         match verdict {
             Ok(None) => Found::Zero,
             Ok(Some(_)) => Found::Nonzero,
             Err(_) => Found::Refused,
         }
     }
+}
 
+impl Found {
     fn name(self) -> &'static str {
         match self {
             Found::Zero => "zero",
@@ -58,7 +60,7 @@ fn run_line(mut numbers: Numbers<'_>, counts: &mut Counts) {
     let verdict = check_table::check(&table, &aux, &challenges);
     let answer = verdict.map(words_of);
     let same = numbers.answer_is(answer);
-    counts.tally(Found::of(verdict) as usize, number_of(&answer), same);
+    counts.tally(Found::from(verdict) as usize, number_of(&answer), same);
     if let Ok(Some(nonzero)) = verdict {
         let kind = Found::FirstGroup as usize + nonzero.group as usize;
         counts.tally(kind, nonzero.index as u64, true);

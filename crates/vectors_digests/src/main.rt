@@ -2,6 +2,7 @@
 // of them are zero. The original Rust prints the same lines; oracle/src/digests.rs describes the pairs and the digest.
 #![tactic(auto)]
 
+use check_search::Group;
 use field::BFieldElement;
 use isa::Opcode;
 use table::{AuxRow, Challenges, MainRow};
@@ -140,17 +141,17 @@ impl Digest {
 
 // The digests of a group of N constraints.
 #[derive(Clone, Copy)]
-struct Group<const N: usize> {
+struct Digests<const N: usize> {
     digests: [Digest; N],
 }
 
-impl<const N: usize> Group<N> {
+impl<const N: usize> Digests<N> {
     fn new() -> Self {
         let none = Digest {
             fold: BFieldElement::ZERO,
             zeros: 0,
         };
-        Group { digests: [none; N] }
+        Digests { digests: [none; N] }
     }
 
     // A value of each constraint.
@@ -161,7 +162,8 @@ impl<const N: usize> Group<N> {
     }
 
     // The group's number, the constraint's, its digest and its zeros, a line each.
-    fn print(&self, rt: &impl Print, group: u64) {
+    fn print(&self, rt: &impl Print, group: Group) {
+        let group = u64::from(group);
         for (i, digest) in self.digests.iter().enumerate() {
             let fold = digest.fold.0;
             let zeros = digest.zeros;
@@ -173,10 +175,10 @@ impl<const N: usize> Group<N> {
 // The four groups of constraints.
 #[derive(Clone, Copy)]
 struct Groups {
-    initial: Group<1>,
-    consistency: Group<15>,
-    transition: Group<22>,
-    terminal: Group<2>,
+    initial: Digests<1>,
+    consistency: Digests<15>,
+    transition: Digests<22>,
+    terminal: Digests<2>,
 }
 
 impl Groups {
@@ -199,17 +201,17 @@ impl Groups {
 
 fn main(rt: HostRuntime) {
     let mut groups = Groups {
-        initial: Group::new(),
-        consistency: Group::new(),
-        transition: Group::new(),
-        terminal: Group::new(),
+        initial: Digests::new(),
+        consistency: Digests::new(),
+        transition: Digests::new(),
+        terminal: Digests::new(),
     };
     let mut draws = Draws(1);
     for k in 0..640 {
         groups.note(&Pair::draw(k, &mut draws));
     }
-    groups.initial.print(&rt, 0);
-    groups.consistency.print(&rt, 1);
-    groups.transition.print(&rt, 2);
-    groups.terminal.print(&rt, 3);
+    groups.initial.print(&rt, Group::Initial);
+    groups.consistency.print(&rt, Group::Consistency);
+    groups.transition.print(&rt, Group::Transition);
+    groups.terminal.print(&rt, Group::Terminal);
 }

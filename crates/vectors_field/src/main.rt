@@ -87,6 +87,7 @@ fn extension(mut numbers: Numbers<'_>, counts: &mut Counts) {
     }
 }
 
+// A line begins with the number of its kind, 1 or 2. The two numbers stand here alone: an enum would name them once more.
 fn run_line(mut numbers: Numbers<'_>, counts: &mut Counts) {
     match numbers.number() {
         1 => base(numbers, counts),

@@ -3,10 +3,9 @@
 // its last wanted number changed: each must differ. Holds are not in the lines: zeros are lent, one a multiplicity, and must be left.
 #![tactic(auto)]
 
+use c_answers::order_number;
 use isa::{Opcode, U32TableEntry};
-use list::LentListMut;
 use list_record::Heights;
-use std::cmp::Ordering;
 use vectors::{Counts, LentList, LineList, Numbers, number_of, same_first};
 use words::Refusal;
 
@@ -45,35 +44,6 @@ fn words_of(heights: Heights) -> [u64; 2] {
     [heights.height, heights.padded]
 }
 
-fn order(order: Ordering) -> u64 {
-    match order {
-        Ordering::Less => 0,
-        Ordering::Equal => 1,
-        Ordering::Greater => 2,
-    }
-}
-
-// ---- lists as they are lent
-// A list, to be looked at.
-fn lend<const K: usize, const M: usize>(list: &LentList<K, M>) -> list::LentList<'_> {
-    list::LentList {
-        sizes: list.sizes,
-        keys: &list.keys,
-        multiplicities: &list.multiplicities,
-        holds: &list.holds,
-    }
-}
-
-// The same, to be changed; the sizes that a call leaves are in what was lent.
-fn lend_mut<const K: usize, const M: usize>(list: &mut LentList<K, M>) -> LentListMut<'_> {
-    LentListMut {
-        sizes: list.sizes,
-        keys: &mut list.keys,
-        multiplicities: &mut list.multiplicities,
-        holds: &mut list.holds,
-    }
-}
-
 // ---- the calls
 fn take_entry(numbers: &mut Numbers<'_>) -> U32TableEntry {
     U32TableEntry::new(numbers.number(), numbers.number(), numbers.number())
@@ -83,7 +53,7 @@ fn record_in<const K: usize, const M: usize>(
     list: &mut LentList<K, M>,
     e: U32TableEntry,
 ) -> Result<[u64; 1], Refusal> {
-    let mut lent = lend_mut(list);
+    let mut lent = list.lend_mut();
     let answer = list_record::record_u32_table_entry(&mut lent, e);
     list.sizes = lent.sizes;
     answer.map(word_of)
@@ -99,13 +69,13 @@ fn record(mut numbers: Numbers<'_>, counts: &mut Counts) {
 fn compare(mut numbers: Numbers<'_>, counts: &mut Counts) {
     let left = take_entry(&mut numbers);
     let right = take_entry(&mut numbers);
-    let same = order(left.compare(right)) == numbers.number();
+    let same = order_number(left.compare(right)) == numbers.number();
     counts.tally(Call::Compare as usize, 0, same);
 }
 
 fn plan(mut numbers: Numbers<'_>, counts: &mut Counts) {
     let list = LineList::take(&mut numbers);
-    let answer = list_record::plan(&lend(&list)).map(words_of);
+    let answer = list_record::plan(&list.lend()).map(words_of);
     let same = numbers.answer_is(answer);
     counts.tally(Call::Plan as usize, number_of(&answer), same);
 }
@@ -113,7 +83,7 @@ fn plan(mut numbers: Numbers<'_>, counts: &mut Counts) {
 fn read(mut numbers: Numbers<'_>, counts: &mut Counts) {
     let mut list = LineList::take(&mut numbers);
     let bytes = numbers.counted_array::<u8, 512>();
-    let mut lent = lend_mut(&mut list);
+    let mut lent = list.lend_mut();
     let answer = list_stored::read_list(&bytes, &mut lent).map(word_of);
     list.sizes = lent.sizes;
     let same = numbers.answer_is(answer) && list.is_next(&mut numbers);
@@ -123,13 +93,14 @@ fn read(mut numbers: Numbers<'_>, counts: &mut Counts) {
 fn write(mut numbers: Numbers<'_>, counts: &mut Counts) {
     let list = LineList::take(&mut numbers);
     let mut bytes = numbers.counted_array::<u8, 512>();
-    let answer = list_stored::write_list(&lend(&list), &mut bytes).map(word_of);
+    let answer = list_stored::write_list(&list.lend(), &mut bytes).map(word_of);
     let is_wanted = numbers.answer_is(answer);
     let wanted = numbers.array::<u8, 512>(bytes.len() as u64);
     let same = is_wanted && same_first(&bytes, &wanted, bytes.len());
     counts.tally(Call::Write as usize, number_of(&answer), same);
 }
 
+// By number: a `TryFrom<u64>` for Call would have the same numbers, and here would be a match on what it answers besides.
 fn run_line(mut numbers: Numbers<'_>, counts: &mut Counts) {
     match numbers.number() {
         1 => record(numbers, counts),

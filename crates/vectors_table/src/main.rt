@@ -4,7 +4,6 @@
 #![tactic(auto)]
 
 use check_table::Verdict;
-use list::LentList;
 use vectors::{Counts, LineList, Numbers, number_of};
 use xfield::XFieldElement;
 
@@ -37,22 +36,12 @@ fn ran(verdict: Verdict) -> u64 {
     }
 }
 
-// A line's list as it is lent.
-fn lend(list: &LineList) -> LentList<'_> {
-    LentList {
-        sizes: list.sizes,
-        keys: &list.keys,
-        multiplicities: &list.multiplicities,
-        holds: &list.holds,
-    }
-}
-
 // ---- the calls
 // A list, a table; number and height; the table after it.
 fn fill(mut numbers: Numbers<'_>, counts: &mut Counts) {
     let list = LineList::take(&mut numbers);
     let mut table = numbers.counted_array::<u64, 1024>();
-    let answer = fill::fill(&lend(&list), &mut table).map(|height| [height]);
+    let answer = fill::fill(&list.lend(), &mut table).map(|height| [height]);
     let same = numbers.answer_is(answer) && numbers.words_are(&table);
     counts.tally(Call::Fill as usize, number_of(&answer), same);
 }
@@ -81,11 +70,12 @@ fn run(mut numbers: Numbers<'_>, counts: &mut Counts) {
     let mut table = numbers.counted_array::<u64, 1024>();
     let mut aux = numbers.counted_array::<u64, 1024>();
     let challenges = numbers.counted_array::<u64, 32>();
-    let number = ran(four_calls::run(&lend(&list), &mut table, &mut aux, &challenges));
+    let number = ran(four_calls::run(&list.lend(), &mut table, &mut aux, &challenges));
     let same = numbers.number() == number && numbers.words_are(&table) && numbers.words_are(&aux);
     counts.tally(Call::Run as usize, number, same);
 }
 
+// By number: a `TryFrom<u64>` for Call would have the same numbers, and here would be a match on what it answers besides.
 fn run_line(mut numbers: Numbers<'_>, counts: &mut Counts) {
     match numbers.number() {
         1 => fill(numbers, counts),

@@ -93,9 +93,9 @@ impl<'a> Case<'a> {
 
     // The output is too short, and stays.
     fn output_is_short(self, out: &mut [u8], counts: &mut Counts) {
-        let number = number_of(&transcribed(self.input, out));
-        let same = number == 7 && untouched(out);
-        counts.tally(Kind::OutputShort as usize, number, same);
+        let answer = transcribed(self.input, out);
+        let same = answer == Err(Refusal::Short) && untouched(out);
+        counts.tally(Kind::OutputShort as usize, number_of(&answer), same);
     }
 
     fn run(self, counts: &mut Counts) {

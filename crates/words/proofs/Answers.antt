@@ -1,9 +1,11 @@
 -- No reason to decline has the number 0, so a refusal is never the answer of a call that did its work.
 use Prim.Native.Nat.{ℕ, ◌<◌}
 use mathlib.Core.Path.{◌≡◌, ap}
+use mathlib.Core.Bool.{false}
 use mathlib.Core.List.{List}
 use native.Mathlib.Omega.{arith}
-use lib.Dec.{lit<}
+use lib.Dec.{lit<, eqb}
+use borrow.Author.Tests.{ne_eqb}
 use Rattle.words.specs.Answers.{Answer, done, declined}
 use Rattle.words.specs.Refusals.{refusal_number}
 use Rattle.words.specs.declared.Refusal.{Refusal}
@@ -27,6 +29,9 @@ number_positive CascadeFull = lit< tt
 number_positive OpenHold = lit< tt
 number_positive NoHold = lit< tt
 number_positive JobAbove = lit< tt
+
+pub not_done : (reason : Refusal) → eqb (refusal_number reason) 0 ≡ false
+not_done reason = ne_eqb (refusal_number reason) 0 (λ e. omega (arith, number_positive reason))
 
 pub declined_not_done : (reason : Refusal) {values : List ℕ} → declined reason ≡ done values → ⊥
 declined_not_done reason e =

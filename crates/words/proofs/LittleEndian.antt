@@ -1,13 +1,17 @@
--- Numbers as bytes: `le` and `le_at` undo each other, and a number is read from its own bytes alone.
+-- Numbers as bytes: `le` and `le_at` undo each other, a number is read from its own bytes alone, and std's conversions make these numbers and bytes.
 -- Both definitions go by the number of bytes, le_at from its highest byte and le from its lowest: `le_at_head` is the bridge.
 use mathlib.Core.Path.{◌≡◌, refl, ap, ◌∙◌}
 use mathlib.Core.List.{List, ◌∷◌, ◌++◌}
-use Prim.Native.Nat.{ℕ, zero, suc, ◌+◌, ◌*◌, ◌/◌, ◌%◌, ◌^◌, ◌≤◌, ◌<◌}
+use Prim.Native.Nat.{ℕ, zero, suc, ◌+◌, ◌-◌, ◌*◌, ◌/◌, ◌%◌, ◌^◌, ◌≤◌, ◌<◌}
 use native.Mathlib.Nat.{add-zero, add-suc, zero-add, suc-add, add_assoc, add-mul, mul_assoc, mul_comm, pow-suc}
 use native.Mathlib.Omega.{arith}
-use lib.ListN.{length, get_or, take, drop, get_or-append}
+use lib.ListN.{length, get_or, take, drop, replicate, get_or-append}
 use lib.Pow.{pow-add}
-use lib.Seq.{sets, drop-cons, get_or-append-add}
+use lib.Seq.{sets, take_at, drop-cons, get_or-append-add}
+use Rattle.std.specs.Int.{byte_at, byte_worth, sum_through, bytes_low_first}
+use Rattle.std.specs.Prelude.{slice_index}
+use Rattle.std.proofs.lemmas.List.{get_or-take, get_or-drop}
+use Rattle.std.proofs.Math.Nat.{div-div-eq-div-mul, div-one, pow-succ'}
 use Rattle.words.specs.LittleEndian.{le_at, le}
 use Rattle.words.proofs.Sets.{get_d_sets_in}
 
@@ -23,6 +27,25 @@ unfolding le
 le_byte zero n j = omega arith
 le_byte (suc k) n zero = omega arith
 le_byte (suc k) n (suc j) = le_byte k _ j
+
+-- the j lowest, and the k after them
+pub le_parts : (j k n : ℕ) → le (j + k) n ≡ le j n ++ le k (n / 256 ^ j)
+unfolding le
+le_parts zero k n = rw (zero-add, div-one)
+le_parts (suc j) k n =
+    let e : n / 256 ^ suc j ≡ n / 256 / 256 ^ j = rw (pow-succ', div-div-eq-div-mul) in
+    rw (suc-add, le_parts j k (n / 256), e)
+
+pub take_le : (j k n : ℕ) → j ≤ k → take j (le k n) ≡ le j n
+take_le j k n h =
+    let e : k ≡ j + (k - j) = omega arith in
+    rw (e, le_parts j (k - j) n) (take_at (le j n) _ j (length_le j n))
+
+-- above the number they are 0
+pub le_zero : (k : ℕ) → le k 0 ≡ replicate k 0
+unfolding le
+le_zero zero = refl
+le_zero (suc k) = ap (λ (l : List ℕ). 0 ∷ l) (le_zero k)
 
 -- ---- the number in bytes
 
@@ -111,3 +134,30 @@ le_le_at s b (suc k) at h =
     let m : (x + 256 * r) % 256 ≡ x = omega arith in
     let d : (x + 256 * r) / 256 ≡ r = omega arith in
     rw (le_at_head s at k, m, d, drop-cons s at 0 l, le_le_at s b k (suc at) (omega arith))
+
+-- ---- std's conversions: a sum of worths, and bytes that are counted up
+
+sum_is_le_at : (bytes : List ℕ) (k : ℕ) → sum_through (λ i. byte_worth i (slice_index bytes i)) k ≡ le_at bytes 0 (suc k)
+unfolding le_at
+sum_is_le_at bytes zero = omega arith
+sum_is_le_at bytes (suc k) = rw (sum_is_le_at bytes k, zero-add (suc k))
+
+-- the number that `from_le_bytes` makes of a part is the number at its place
+pub le_at_part : (s part : List ℕ) (a b k : ℕ) → part ≡ take (b - a) (drop a s) → b ≡ a + suc k
+    → sum_through (λ i. byte_worth i (slice_index part i)) k ≡ le_at s a (suc k)
+le_at_part s part a b k e f =
+    let w : b - a ≡ suc k = omega arith in
+    sum_is_le_at part k
+    ∙ le_at_same part s 0 a (suc k) (λ j p. rw (e, w, zero-add) (get_or-take (suc k) (drop a s) j 0 p ∙ get_or-drop a s j 0))
+
+byte_is : (i n : ℕ) → byte_at i n ≡ n / 256 ^ i % 256
+byte_is zero n = rw div-one
+byte_is (suc i) n = refl
+
+-- the bytes that `to_le_bytes` makes, from byte i upward
+pub bytes_are_le : (i k n : ℕ) → bytes_low_first i k n ≡ le k (n / 256 ^ i)
+unfolding le
+bytes_are_le i zero n = refl
+bytes_are_le i (suc k) n =
+    let e : n / 256 ^ suc i ≡ n / 256 ^ i / 256 = rw (pow-suc, div-div-eq-div-mul) in
+    rw (byte_is i n, bytes_are_le (suc i) k n, e)

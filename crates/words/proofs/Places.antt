@@ -2,7 +2,7 @@
 use mathlib.Core.Path.{◌≡◌, refl, sym, ap, ◌∙◌}
 use mathlib.Core.List.{List, [], ◌∷◌, ◌++◌, map, flat_map}
 use Prim.Native.Nat.{ℕ, zero, suc, ◌+◌, ◌*◌, ◌-◌, ◌≤◌, ◌<◌}
-use native.Mathlib.Nat.{zero-add, add-zero, mul-suc, mul-zero}
+use native.Mathlib.Nat.{zero-add, add-zero, mul-suc, mul-zero, mul-le-mul_left}
 use native.Mathlib.Numerals.{add-one}
 use native.Mathlib.Omega.{arith}
 use lib.ListN.{length, get_or, set, take, drop, length-append, get_or-append}
@@ -114,3 +114,10 @@ flat_parts s a w g i (suc n) e =
     let p : w * suc n ≡ w + w * n = rw mul-suc (omega arith) in
     let q : a + w * suc i ≡ a + w * i + w = rw mul-suc (omega arith) in
     rw (e i (omega arith) (omega arith), flat_parts s a w g (suc i) n (λ j u v. e j (omega arith) (omega arith)), p, q, take-add, drop-drop)
+
+-- block j of n blocks ends within them
+pub block_end : (w j n : ℕ) → j < n → w * j + w ≤ w * n
+block_end w j n h =
+    let l : suc j ≤ n = omega arith in
+    let m : w * suc j ≤ w * n = mul-le-mul_left w l in
+    omega (arith, mul-suc w j)

@@ -1,12 +1,13 @@
 -- The laws of `lib.Seq.sets`, a run of stores: what a store, another run, a read and a part make of it, and the splice that it is.
 use mathlib.Core.Path.{◌≡◌, refl, sym, ap, ◌∙◌}
-use mathlib.Core.List.{List, [], ◌∷◌, ◌++◌}
+use mathlib.Core.List.{List, [], ◌∷◌, ◌++◌, append_assoc}
 use Prim.Native.Nat.{ℕ, zero, suc, ◌+◌, ◌<◌, ◌≤◌}
 use native.Mathlib.Nat.{add-zero, add-suc, suc-add, zero-add}
 use native.Mathlib.Numerals.{add-one}
 use native.Mathlib.Omega.{arith}
 use lib.ListN.{length, get_or, set, take, drop, length-set}
-use lib.Seq.{sets, sets-eq, set_comm, set-set, get_or-set_same, get_or-set_other, take-suc, length-take-le, take_at}
+use borrow.Rule.Slice.PartMut.{put_mid}
+use lib.Seq.{sets, sets-eq, drop-drop, set_comm, set-set, get_or-set_same, get_or-set_other, take-suc, length-take-le, take_at}
 
 -- ---- a store below, above and inside a run
 
@@ -88,3 +89,8 @@ sets_turn ws l j i h =
     (ap (λ (v : List ℕ). sets l j v) e
     ∙ sets_append (take i ws) (get_or ws i 0 ∷ []) l j
     ∙ ap (λ (n : ℕ). set (sets l j (take i ws)) (j + n) (get_or ws i 0)) (length-take-le i ws (omega arith)))
+
+-- ---- a part that is written over
+
+pub part_sets : (l part vs : List ℕ) (a k : ℕ) → part ≡ vs → k ≡ length vs → a + length vs ≤ length l → put_mid a k l part ≡ sets l a vs
+part_sets l part vs a k e f h = rw (e, f, drop-drop, ← append_assoc) (sym (sets-eq vs l a h))

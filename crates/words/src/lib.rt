@@ -60,42 +60,38 @@ impl From<Refusal> for u64 {
 }
 
 // The byte at a place, as a word.
+#[tactic(auto, using(crate::proofs::LittleEndian::le_at_one))]
 pub fn byte_at(bytes: &[u8], at: usize) -> u64
     requires { at < length bytes.now }
     ensures exact { result ≡ le_at bytes.now at 1 }
     ensures bound { result < 256 }
 {
-    bytes[at] as u64
+    u64::from(bytes[at])
 }
 
-// The number in four bytes, with no loop: the sum of byte i times 256^i.
+// The number in four bytes: the sum of byte i times 256^i.
 pub fn half_at(bytes: &[u8], at: usize) -> u64
     requires { at + 4 ≤ length bytes.now }
     ensures exact { result ≡ le_at bytes.now at 4 }
     ensures bound { result < 4294967296 }
 {
-    byte_at(bytes, at)
-        + byte_at(bytes, at + 1) * 256
-        + byte_at(bytes, at + 2) * 65536
-        + byte_at(bytes, at + 3) * 16777216
+    u64::from(u32::from_le_bytes(bytes[at..at + 4].try_into().unwrap()))
 }
 
-// Eight bytes to a word, with no loop: the sum of byte i times 256^i.
+// Eight bytes to a word: the sum of byte i times 256^i.
 pub fn word_at(bytes: &[u8], at: usize) -> u64
     requires { at + 8 ≤ length bytes.now }
     ensures { result ≡ le_at bytes.now at 8 }
 {
-    half_at(bytes, at) + half_at(bytes, at + 4) * 4294967296
+    u64::from_le_bytes(bytes[at..at + 8].try_into().unwrap())
 }
 
-// Puts the k lowest bytes of n at place `at`, lowest first.
+// Puts the k lowest bytes of n at place `at`, lowest first. Past the eighth they are 0.
 pub fn put_le(bytes: &mut [u8], at: usize, k: usize, n: u64)
     requires { at + k ≤ length bytes.old }
     ensures { bytes.new ≡ sets bytes.old at (le k n) }
 {
-    let mut rest = n;
-    for i in 0..k {
-        bytes[at + i] = (rest % 256) as u8;
-        rest /= 256;
-    }
+    let low = k.min(8);
+    bytes[at..at + low].copy_from_slice(&n.to_le_bytes()[..low]);
+    bytes[at + low..at + k].fill(0);
 }

@@ -11,7 +11,7 @@ use native.Mathlib.Omega.{arith}
 use Rattle.field.specs.Elements.{p, add_f, sub_f, mul_f, inv_f, InverseOrZero}
 use Rattle.field.proofs.Ring.{Expr, var, con, neg, ◌:+◌, ◌:*◌, ◌:-◌, solve, combine}
 use Rattle.field.proofs.Inverses.{inv_f_is, inv_f_product}
-use Rattle.field.proofs.RingLaws.{𝔹, mul_f_zero, mul_f_comm}
+use Rattle.field.proofs.RingLaws.{𝔹, mul_f_zero_left, mul_f_comm}
 use Rattle.xfield.specs.Extension.{Ext, ext, zero_x, one_x, lift_x, reduce_x, mul_x, scale_x, HasInverse, Reduced, InverseOrZeroX}
 use Rattle.xfield.specs.Inverses.{adjugate_x, norm_x, inv_x}
 use Rattle.xfield.proofs.RingLawsX.{ExprX, expr_x, ◌*X◌, X, Y, env, base_e, solve_x, base_scale_x, 𝔼, neg_one_x}
@@ -52,7 +52,7 @@ one≢zero = omega arith
 pub norm_x_not_zero : (x : Ext) → HasInverse x → norm_x x ≢ 0
 unfolding HasInverse
 norm_x_not_zero x (y, e) z =
-    one≢zero (sym norm_x_one ∙ ap norm_x (sym e) ∙ norm_x_mul_x y x ∙ ap (mul_f (norm_x y)) z ∙ mul_f_comm (norm_x y) 0 ∙ mul_f_zero (norm_x y))
+    one≢zero (sym norm_x_one ∙ ap norm_x (sym e) ∙ norm_x_mul_x y x ∙ ap (mul_f (norm_x y)) z ∙ mul_f_comm (norm_x y) 0 ∙ mul_f_zero_left (norm_x y))
 
 -- where i is the inverse of the norm, i times the adjugate is the inverse of x
 pub adjugate_x_unit : (x : Ext) (i : ℕ) → InverseOrZero (norm_x x) i → norm_x x ≢ 0 → mul_x (scale_x i (adjugate_x x)) x ≡ one_x

@@ -10,5 +10,5 @@ use Rattle.archive.proofs.put_column.Given as goal
 
 abbrev pub invariant-loop-i : goal.invariant-loop-i
 invariant-loop-i l =
-    sets l.initial.out l.at (column_bytes l.width l.cells l.rows l.c)
-    ≡ sets l.out (l.at + word_width * l.i) (flat_map (cell_bytes l.width l.cells l.rows l.c) (places_from l.i (l.rows - l.i)))
+    sets l.initial.out 0 (column_bytes l.width l.cells l.rows l.c)
+    ≡ sets l.out (0 + word_width * l.i) (flat_map (cell_bytes l.width l.cells l.rows l.c) (places_from l.i (l.rows - l.i)))

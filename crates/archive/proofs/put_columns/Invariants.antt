@@ -11,5 +11,5 @@ use Rattle.archive.proofs.put_columns.Given as goal
 
 abbrev pub invariant-loop-c : goal.invariant-loop-c
 invariant-loop-c l =
-    sets l.initial.out l.at (flat_map (le word_width) (columns l.width l.cells l.rows))
-    ≡ sets l.out (l.at + word_width * l.rows * l.c) (flat_map (column_bytes l.width l.cells l.rows) (places_from l.c (l.width - l.c)))
+    sets l.initial.out 0 (flat_map (le word_width) (columns l.width l.cells l.rows))
+    ≡ sets l.out (0 + word_width * l.rows * l.c) (flat_map (column_bytes l.width l.cells l.rows) (places_from l.c (l.width - l.c)))

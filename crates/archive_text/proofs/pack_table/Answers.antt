@@ -1,6 +1,5 @@
 -- `archive_text::pack_table` meets its contract: a refusal of extension is the fault; else archiving follows, and is not refused.
 use mathlib.Core.Path.{refl}
-use Rattle.words.proofs.Judgements.{handed_on}
 use Rattle.archive_text.proofs.Packing.{sums_archived, table_archived, table_refused, archive_put, archive_made, rows_limit, fault_of}
 use Rattle.archive_text.proofs.pack_table.Goals as goal
 

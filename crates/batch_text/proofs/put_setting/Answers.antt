@@ -1,5 +1,5 @@
 -- `batch_text::put_setting` meets its contract: the totals that the setting gives, or the reason against it.
-use mathlib.Core.Path.{sym, ap, ◌∙◌}
+use mathlib.Core.Path.{refl, sym, ap, ◌∙◌}
 use Rattle.batches.specs.Batches.{trial_answer}
 use Rattle.batches.proofs.Answering.{trial_bounds}
 use Rattle.batch_text.proofs.Tables.{totals_due, refusal_due}
@@ -11,7 +11,7 @@ put_totals-requires c =
 
 pub returns-in-Err : goal.returns-in-Err
 returns-in-Err c =
-    refusal_due c.args.jobs.now c.args.setting c.in-Err.reason (ap trial_answer (sym c.in-Err.is) ∙ c.try_setting.ensures) c.from.ensures
+    refusal_due c.args.jobs.now c.args.setting c.in-Err.reason (ap trial_answer (sym c.in-Err.is) ∙ c.try_setting.ensures) refl
     c.put_refusal.ensures
 
 pub returns-in-Ok : goal.returns-in-Ok

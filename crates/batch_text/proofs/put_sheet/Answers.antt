@@ -10,21 +10,21 @@ use Rattle.batch_text.proofs.Tables.{sheet_none, sheet_some}
 use borrow.Author.Rules.{rules}
 use Rattle.batch_text.proofs.put_sheet.Goals as goal
 
-pub returns-then-settings-eq0 : goal.returns-then-settings-eq0
-returns-then-settings-eq0 c =
-    adds_same (sheet_none (take c.args.settings c.args.words.now) (take c.args.jobs (drop most_settings c.args.words.now)) (length-take-le c.args.settings c.args.words.now (search rules)) c.if-settings-eq0.true)
+pub returns-then-sheet-eq0 : goal.returns-then-sheet-eq0
+returns-then-sheet-eq0 c =
+    adds_same (sheet_none (take c.args.sheet.settings c.args.words.now) (take c.args.sheet.jobs (drop most_settings c.args.words.now)) (length-take-le c.args.sheet.settings c.args.words.now (search rules)) c.if-sheet-eq0.true)
     c.put_str.ensures
 
 pub slice_bounds-put_table-end : goal.slice_bounds-put_table-end
 slice_bounds-put_table-end c =
-    sym (length-take-le c.args.settings c.args.words.now (search rules))
+    sym (length-take-le c.args.sheet.settings c.args.words.now (search rules))
 
 pub put_table-requires : goal.put_table-requires
 put_table-requires c =
-    (search rules, omega (arith, length-take-le c.args.settings c.args.words.now (search rules)))
+    (search rules, omega (arith, length-take-le c.args.sheet.settings c.args.words.now (search rules)))
 
 pub returns : goal.returns
 returns c =
-    let e : most_settings + c.args.jobs - most_settings ≡ c.args.jobs = omega arith in
-    adds_same (sheet_some (take c.args.settings c.args.words.now) (take c.args.jobs (drop most_settings c.args.words.now)) (length-take-le c.args.settings c.args.words.now (search rules)) c.if-settings-eq0.false)
+    let e : most_settings + c.args.sheet.jobs - most_settings ≡ c.args.sheet.jobs = omega arith in
+    adds_same (sheet_some (take c.args.sheet.settings c.args.words.now) (take c.args.sheet.jobs (drop most_settings c.args.words.now)) (length-take-le c.args.sheet.settings c.args.words.now (search rules)) c.if-sheet-eq0.false)
     (rw e at c.put_table.ensures)

@@ -2,8 +2,8 @@
 use Rattle.batch_text.proofs.Tables.{share_none, share_some}
 use Rattle.batch_text.proofs.share.Goals as goal
 
-pub returns-then-rows-padding-eq0 : goal.returns-then-rows-padding-eq0
-returns-then-rows-padding-eq0 c = share_none _ _ c.if-rows-padding-eq0.true
+pub returns-then-padded-eq0 : goal.returns-then-padded-eq0
+returns-then-padded-eq0 c = share_none _ _ c.if-padded-eq0.true
 
 pub returns : goal.returns
-returns c = share_some _ _ c.if-rows-padding-eq0.false
+returns c = share_some _ _ c.if-padded-eq0.false

@@ -6,5 +6,4 @@ use Rattle.batches.proofs.tally.Given as goal
 
 abbrev pub invariant-loop-batch : goal.invariant-loop-batch
 invariant-loop-batch l =
-    (goal.iterator-loop-batch).can_next l.batch-iterator × (goal.iterator-loop-batch).is_finite l.batch-iterator
-    × Tallied (batches_of l.setting l.jobs) (batches_left l.batch-iterator) l.totals.count l.totals.rows l.totals.padding
+    Tallied (batches_of l.each.setting l.each.jobs.now) (batches_left l.batch-iterator) l.totals.count l.totals.rows l.totals.padding

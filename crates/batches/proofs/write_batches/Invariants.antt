@@ -6,5 +6,5 @@ use Rattle.batches.proofs.write_batches.Given as goal
 
 abbrev pub invariant-loop-place : goal.invariant-loop-place
 invariant-loop-place l =
-    (goal.iterator-loop-place).can_next l.place-iterator × (goal.iterator-loop-place).is_finite l.place-iterator
-    × Written (batches_of l.setting l.jobs) (batches_left l.place-iterator.iter) l.initial.results l.results l.place-iterator.count
+    (goal.iterator-loop-place).can_next l.place-iterator
+    × Written (batches_of l.each.setting l.each.jobs.now) (batches_left l.place-iterator.iter) l.initial.results l.results l.place-iterator.count

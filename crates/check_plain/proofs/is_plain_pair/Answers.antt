@@ -1,6 +1,6 @@
 -- `check_plain::is_plain_pair` meets its contract: a section begins below an end row, or the lower row is a plain step (proofs/Steps.antt); and
 -- the sum is accumulated, or stays (proofs/Sums.antt). Assumes nothing.
-use Rattle.std.proofs.Common.{sym, rules}
+use Rattle.std.proofs.Common.{rules}
 use Rattle.air.proofs.Lists.{zero_transition}
 use Rattle.table.specs.Layouts.{row_of}
 use Rattle.check_plain.proofs.Steps.{step_zero, seam}

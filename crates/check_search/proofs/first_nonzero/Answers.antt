@@ -4,14 +4,11 @@ use Rattle.check_search.proofs.Steps.{all_passed, passed, found}
 use Rattle.check_search.proofs.first_nonzero.Goals as goal
 
 pub loop-index-preserved : goal.loop-index-preserved
-loop-index-preserved c = (
-  omega arith,
-  λ next. c.loop-index.invariant.1 next ∙ passed _ _ _ c.loop-index.index next (omega arith) c.is_zero.ensures (search rules),
-)
+loop-index-preserved c = λ next. c.loop-index.invariant next ∙ passed _ _ _ c.loop-index.index next (omega arith) c.is_zero.ensures (search rules)
 
 pub returns-then-not-is_zero : goal.returns-then-not-is_zero
 returns-then-not-is_zero c = λ next. sym
-    (c.loop-index.invariant.1 next ∙ found _ _ _ c.loop-index.index next (omega arith) c.is_zero.ensures (search rules))
+    (c.loop-index.invariant next ∙ found _ _ _ c.loop-index.index next (omega arith) c.is_zero.ensures (search rules))
 
 pub returns : goal.returns
-returns c = λ next. sym (c.loop-index.invariant.1 next ∙ all_passed _ _ _ c.loop-index.index next (omega arith))
+returns c = λ next. sym (c.loop-index.invariant next ∙ all_passed _ _ _ c.loop-index.index next (omega arith))

@@ -4,6 +4,7 @@ use mathlib.Core.Path.{◌≡◌, refl, sym, ◌∙◌}
 use mathlib.Core.Bool.{Bool, true, false, ◌&&◌}
 use mathlib.Core.List.{List}
 use lib.Dec.{eqb}
+use native.Mathlib.Omega.{arith}
 use borrow.Author.Rules.{rules}
 use borrow.Author.Tests.{not-true, not-false, eq-eqb, ne_eqb}
 use Rattle.words.specs.Refusals.{Fine, Declined}
@@ -11,6 +12,7 @@ use Rattle.words.specs.declared.Refusal.TheVariants.{Shape, Short, Unreduced}
 use Rattle.table.specs.Columns.{row_count, table_shape, aux_shape, all_reduced}
 use Rattle.table.specs.Challenges.{challenges_shape}
 use Rattle.air.specs.Check.{check_reason}
+use Rattle.table.proofs.Rows.{shaped}
 use Rattle.check_table.proofs.judge.Goals as goal
 
 and_of_three : (a b c : Bool) → ((a && b) && c) ≡ (a && (b && c))
@@ -68,8 +70,20 @@ returns-then-not-all_reduced c =
     (both_words _ _ _ (sym c.are_reduced.ensures ∙ not-false c.are_reduced.result (search rules))
     (sym c.all_reduced.ensures ∙ not-true c.all_reduced.result (search rules)))
 
+-- the words are as many as the judged table has
+pub invariant_of-result-2 : goal.invariant_of-result-2
+invariant_of-result-2 c =
+    let shapes = shaped _ _ _ (sym c.have_shapes.ensures ∙ not-false c.have_shapes.result (search rules)) in record {
+      aux_long = omega (arith, shapes.aux_length);
+      challenges_long = omega (arith, shapes.challenges_length);
+    }
+
 pub returns : goal.returns
-returns c =
-    fine _ _ _ (sym c.have_shapes.ensures ∙ not-false c.have_shapes.result (search rules)) (ne_eqb _ 0 c.if-table-eq0.false)
-    (both_words _ _ _ (sym c.are_reduced.ensures ∙ not-false c.are_reduced.result (search rules))
-    (sym c.all_reduced.ensures ∙ not-false c.all_reduced.result (search rules)))
+returns c = (
+  refl,
+  refl,
+  refl,
+  fine _ _ _ (sym c.have_shapes.ensures ∙ not-false c.have_shapes.result (search rules)) (ne_eqb _ 0 c.if-table-eq0.false)
+      (both_words _ _ _ (sym c.are_reduced.ensures ∙ not-false c.are_reduced.result (search rules))
+      (sym c.all_reduced.ensures ∙ not-false c.all_reduced.result (search rules))),
+)

@@ -1,19 +1,36 @@
 -- `check_table::search` meets its contract: each search is made only where those before it found nothing. Assumes nothing.
-use Rattle.std.proofs.Common.{rules, ◌∙◌, ◌-◌}
-use Rattle.table.specs.Columns.{row_count}
-use Rattle.air.specs.Check.{zero_answer, consistency_at, transition_at, terminal_at, first_in_rows, first_nonzero}
-use Rattle.check_table.proofs.Joined.{or_next_search}
+use Rattle.std.proofs.Common.{◌∙◌}
+use Rattle.air.specs.Check.{first_nonzero}
+use Rattle.check_search.proofs.Steps.{initial_searched}
+use Rattle.check_table.proofs.Joined.{search_hit, search_passed}
 use Rattle.check_table.proofs.search.Goals as goal
+
+pub returns-then-is_some : goal.returns-then-is_some
+unfolding first_nonzero
+returns-then-is_some c =
+    let initial = initial_searched _ _ _ _ c.initial-initial.ensures c.from_words-weights.ensures c.at.ensures in
+    search_hit _ c.is_some.ensures initial c.if-is_some.true _
+
+pub returns-then-is_some-2 : goal.returns-then-is_some-2
+unfolding first_nonzero
+returns-then-is_some-2 c =
+    let initial = initial_searched _ _ _ _ c.initial-initial.ensures c.from_words-weights.ensures c.at.ensures in
+    search_hit _ c.is_some-2.ensures c.consistency-consistency.ensures c.if-is_some-2.true _
+    ∙ search_passed _ c.is_some.ensures initial c.if-is_some.false _
+
+pub returns-then-is_some-3 : goal.returns-then-is_some-3
+unfolding first_nonzero
+returns-then-is_some-3 c =
+    let initial = initial_searched _ _ _ _ c.initial-initial.ensures c.from_words-weights.ensures c.at.ensures in
+    search_hit _ c.is_some-3.ensures c.transition-transition.ensures c.if-is_some-3.true _
+    ∙ search_passed _ c.is_some-2.ensures c.consistency-consistency.ensures c.if-is_some-2.false _
+    ∙ search_passed _ c.is_some.ensures initial c.if-is_some.false _
 
 pub returns : goal.returns
 unfolding first_nonzero
 returns c =
-    let table = c.args.table.now in
-    let rows = row_count table in
-    let terminal = first_in_rows (terminal_at table) 3 (rows - 1) 1 in
-    let transition = first_in_rows (transition_at table c.args.aux.now c.args.challenges.now) 2 0 (rows - 1) in
-    let consistency = first_in_rows (consistency_at table) 1 0 rows in
-    or_next_search c.or_else-2.result c.or_else-3.result terminal zero_answer c.or_else-3.ensures (λ p. search rules)
-    ∙ or_next_search c.or_else.result c.or_else-2.result transition (terminal zero_answer) c.or_else-2.ensures (λ p. search rules)
-    ∙ or_next_search c.initial.result c.or_else.result consistency (transition (terminal zero_answer)) c.or_else.ensures (λ p. search rules)
-    ∙ c.initial.ensures (consistency (transition (terminal zero_answer)))
+    let initial = initial_searched _ _ _ _ c.initial-initial.ensures c.from_words-weights.ensures c.at.ensures in
+    c.terminal.ensures _
+    ∙ search_passed _ c.is_some-3.ensures c.transition-transition.ensures c.if-is_some-3.false _
+    ∙ search_passed _ c.is_some-2.ensures c.consistency-consistency.ensures c.if-is_some-2.false _
+    ∙ search_passed _ c.is_some.ensures initial c.if-is_some.false _

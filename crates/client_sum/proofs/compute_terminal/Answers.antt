@@ -15,7 +15,7 @@ use Rattle.xfield.specs.Extension.{Ext, add_x, is_zero_x, InverseOrZeroX}
 use Rattle.xfield.specs.Inverses.{inv_x}
 use Rattle.xfield.proofs.Inverses.{inv_x_only}
 use Rattle.isa.specs.declared.U32TableEntry.{U32TableEntry}
-use Rattle.isa.specs.Entries.{judge_entry, admitted, admit}
+use Rattle.isa.specs.Entries.{entry_in, judge_entry, admitted, admit}
 use Rattle.isa.proofs.Entries.{admit_admitted, admit_refused}
 use Rattle.table.specs.Challenges.{Challenges, challenges_of}
 use Rattle.sums.specs.RunningSum.{running_sum}
@@ -25,11 +25,13 @@ use Rattle.client_sum.proofs.Reasons.{not_admitted, is_flat, is_fine, torn_reque
 use Rattle.client_sum.proofs.compute_terminal.Goals as goal
 
 -- ---- a turn: request i, as it was read, and what `admit` answered
-module _ (requests challenges : List ℕ) (i : ℕ) {request : U32TableEntry} (at : request ≡ request_at requests i) where
+module _ (requests challenges : List ℕ) (i : ℕ) {request : U32TableEntry} (at : request ≡ entry_in requests i) where
   is_admitted : {e : U32TableEntry} → Ok e ≡ admit request → (judge_entry (request_at requests i) ≡ Fine) × (e ≡ admitted (request_at requests i))
+  unfolding request_at
   is_admitted told = rw (← at) (admit_admitted request (sym told))
 
   is_refused : {reason : Refusal} → Err reason ≡ admit request → request_reason requests challenges i ≡ Declined reason
+  unfolding request_at
   is_refused told = not_admitted requests challenges i (rw (← at) (admit_refused request (sym told)))
 
   module _ {e : U32TableEntry} (told : Ok e ≡ admit request) {c : Challenges} (known : c ≡ challenges_of challenges)
@@ -73,19 +75,19 @@ pub returns-in_err-entry : goal.returns-in_err-entry
 returns-in_err-entry c =
     rw (handed_on _ c.from_residual.ensures.1)
     (refused _ _
-    (c.loop-i.invariant.0 ∙ first_hit _ _ _ c.loop-i-test.true (is_refused _ _ _ c.request_at.ensures c.in_err-entry.ensures)))
+    (c.loop-i.invariant.0 ∙ first_hit _ _ _ c.loop-i-test.true (is_refused _ _ _ c.at.ensures c.in_err-entry.ensures)))
 
 pub returns-then-is_zero : goal.returns-then-is_zero
 returns-then-is_zero c =
     refused _ _
     (c.loop-i.invariant.0
     ∙ first_hit _ _ _ c.loop-i-test.true
-    (flat_turn _ _ _ c.request_at.ensures c.in_ok-entry.ensures c.from_words-elements.ensures c.denominator_of-denominator.ensures
+    (flat_turn _ _ _ c.at.ensures c.in_ok-entry.ensures c.from_words-elements.ensures c.denominator_of-denominator.ensures
     (sym c.is_zero.ensures ∙ c.if-is_zero.true)))
 
 pub loop-i-preserved : goal.loop-i-preserved
 loop-i-preserved c =
-    let at = c.request_at.ensures in
+    let at = c.at.ensures in
     let told = c.in_ok-entry.ensures in
     let known = c.from_words-elements.ensures in
     let found = c.denominator_of-denominator.ensures in (

@@ -9,18 +9,15 @@ use Rattle.words.proofs.Outcomes.{leaves_said}
 use Rattle.isa.specs.declared.U32TableEntry.{U32TableEntry}
 use Rattle.list.specs.Holds.{HeldList}
 use Rattle.list.specs.Lent.{held_in_mut}
-use Rattle.list_record.specs.Placing.{Placed, place_of, Fits}
-use Rattle.list_record.proofs.RecordingCases.{place_fits}
+use Rattle.list_record.specs.Placing.{Placed, place_of}
+use Rattle.list_record.proofs.RecordingCases.{has_room}
 use Rattle.list_replay.specs.Together.{second_place}
-use Rattle.list_replay.proofs.BothPlaces.{first_refused, ahead_refused, second_refused, second_fits, both_stored}
+use Rattle.list_replay.proofs.BothPlaces.{first_refused, ahead_refused, second_refused, second_fits, stored_refuses_not, both_stored}
 use Rattle.list_replay.proofs.record_both.Goals as goal
 
 -- what is found in a list that is looked at is found in the list that was lent
 found_in : {view h : HeldList} (e : U32TableEntry) {p : Placed} → view ≡ h → p ≡ place_of view e → p ≡ place_of h e
 found_in e q f = f ∙ ap (λ (l : HeldList). place_of l e) q
-
-has_room : (h : HeldList) (e : U32TableEntry) {p : Placed} → p ≡ place_of h e → Fits h p
-has_room h e q = rw q (place_fits h e)
 
 pub returns-in_err-first-clause-outcome : goal.returns-in_err-first-clause-outcome
 returns-in_err-first-clause-outcome c =
@@ -41,17 +38,23 @@ returns-in_err-second-clause-outcome c =
 pub store-requires : goal.store-requires
 store-requires c = (search rules, search rules, has_room _ _ (found_in _ c.view.ensures c.in_ok-first.ensures))
 
+pub returns-in_err-store : goal.returns-in_err-store
+returns-in_err-store c = absurd (stored_refuses_not _ _ _ c.in_err-store.ensures.outcome.answer)
+
 pub store-requires-2 : goal.store-requires-2
 store-requires-2 c = (
   search rules,
   search rules,
   second_fits (held_in_mut c.args.list.now) _ _ c.requires _ (found_in _ c.view.ensures c.in_ok-first.ensures) _
       (c.in_ok-second.ensures ∙ ap (second_place _ (Ok c.in_ok-first.first)) (found_in _ c.view-2.ensures c.in_ok-ahead.ensures)) _
-      c.store.ensures.outcome.left,
+      c.in_ok-store.ensures.outcome.left,
 )
+
+pub returns-in_err-store-2 : goal.returns-in_err-store-2
+returns-in_err-store-2 c = absurd (stored_refuses_not _ _ _ c.in_err-store-2.ensures.outcome.answer)
 
 pub returns-clause-outcome : goal.returns-clause-outcome
 returns-clause-outcome c =
     both_stored _ _ _ c.requires _ (found_in _ c.view.ensures c.in_ok-first.ensures) _
     (c.in_ok-second.ensures ∙ ap (second_place _ (Ok c.in_ok-first.first)) (found_in _ c.view-2.ensures c.in_ok-ahead.ensures)) _
-    c.store.ensures.outcome.left c.store-2.ensures.outcome
+    c.in_ok-store.ensures.outcome.left c.in_ok-store-2.ensures.outcome

@@ -8,4 +8,4 @@ abbrev pub invariant-loop-byte : goal.invariant-loop-byte
 invariant-loop-byte g l =
     (g.S.Sheet.room ≤ length l.words)
     × g.S.Sheet.Fits l.reached.sheet
-    × (feed_all g.S.Sheet.takes (Ok l.initial.reached) l.part l.initial.words ≡ feed_all g.S.Sheet.takes (Ok l.reached) (drop l.byte-index l.part) l.words)
+    × (feed_all g.S.Sheet.takes l.fn.stage l.part l.initial.words ≡ feed_all g.S.Sheet.takes (Ok l.reached) (drop l.byte-index l.part) l.words)

@@ -1,8 +1,8 @@
--- A word that is the number of none of the ten is no instruction.
-use Rattle.std.proofs.Common.{◌≢◌, ℕ, false, ◌≡◌, rules, refl}
+-- A word that is the number of none of the four, and of none of the six, is no instruction.
+use Rattle.std.proofs.Common.{◌≢◌, ℕ, false, ◌≡◌, rules}
 use Rattle.std.proofs.lemmas.Bool.{ne_eqb}
+use Rattle.words.proofs.Judgements.{handed_on}
 use Rattle.isa.specs.Opcodes.{op_div_mod, op_xor, op_merkle_step, op_merkle_step_mem, is_opcode}
-use Rattle.isa.proofs.Opcodes.{stranger}
 use Rattle.list_replay.specs.Steps.{is_instruction}
 use Rattle.list_replay.proofs.InstructionTryFromU64.try_from.Goals as goal
 
@@ -10,7 +10,7 @@ none_of_ten : (o : ℕ) → is_opcode o ≡ false → o ≢ op_div_mod → o ≢
 unfolding is_instruction
 none_of_ten o six a b c d = simp (six, ne_eqb o op_div_mod a, ne_eqb o op_xor b, ne_eqb o op_merkle_step c, ne_eqb o op_merkle_step_mem d)
 
-pub returns-in_default : goal.returns-in_default
-returns-in_default c =
-    let six = stranger c.args.word (search rules) (search rules) (search rules) (search rules) (search rules) (search rules) in
-    (none_of_ten _ six (search rules) (search rules) (search rules) (search rules), refl)
+pub returns-in_err-try_from-in_default : goal.returns-in_err-try_from-in_default
+returns-in_err-try_from-in_default c =
+    let six = c.in_err-try_from-in_default.ensures in
+    rw (handed_on _ c.from_residual.ensures.1) (none_of_ten _ six.0 (search rules) (search rules) (search rules) (search rules), six.1)
