@@ -32,7 +32,7 @@ def provers():
             continue
         try:
             words = (entry / "cmdline").read_bytes().decode(errors="replace").split("\0")
-            if "check" not in words or "--crate-name" not in words:
+            if not words[0].endswith("/rattle") or "--crate-name" not in words:
                 continue
             fields = (entry / "stat").read_text().rpartition(")")[2].split()
             most = re.search(r"VmHWM:\s*(\d+)", (entry / "status").read_text())

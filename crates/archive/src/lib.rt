@@ -2,17 +2,17 @@
 // changes. Both ways the destination is written in order, and the source read where the next word stands.
 #![tactic(auto)]
 
-ghost use Rattle.std.specs.Prelude.{◌≡◌, ◌&&◌, ◌+◌, ◌*◌, ◌≤◌, ◌<◌, length};
+ghost use Rattle.std.specs.Prelude.{◌≡◌, ◌&&◌, ◌+◌, ◌*◌, ◌≤◌, ◌<◌, length, MatchResult};
 ghost use mathlib.Core.List.{map, flat_map};
 ghost use Rattle.std.proofs.lemmas.List.Edits.{sets};
 ghost use Rattle.words.specs.Limits.{max_rows};
 ghost use Rattle.words.specs.LittleEndian.{le};
 ghost use Rattle.words.specs.Outcomes.{Leaves, completed_answer};
+ghost use Rattle.words.specs.Refusals.{Fine, Declined};
 ghost use Rattle.words.specs.Places.{places};
 ghost use Rattle.table.specs.Columns.{table_shape, aux_shape, all_reduced};
 ghost use Rattle.archive.specs.Archives.{word_width, archive_length, column, columns, archived_word, archived_rows, archived_words, rows_from};
-ghost use Rattle.archive.specs.Archives.{restore_reason, archive_all, restore_all, table_and_aux};
-ghost use Rattle.archive.specs.Archives.{torn as torn_of};
+ghost use Rattle.archive.specs.Archives.{torn, restore_reason, archive_all, restore_all, table_and_aux};
 
 use field::BFieldElement;
 use table::{AuxRow, MainRow};
@@ -36,25 +36,41 @@ fn have_shapes(table: &[u64], aux: &[u64]) -> bool
     MainRow::has_shape(table) && AuxRow::has_shape(table, aux)
 }
 
-// Stores column c of rows of so many words each, top to bottom, at the front of `out`.
-#[tactic(auto, using(crate::proofs::Blocks::in_blocks))]
-fn put_column(cells: &[u64], width: usize, rows: usize, c: usize, out: &mut [u8])
-    requires { (c < width) × (width * rows ≤ length cells.now) × (word_width * rows ≤ length out.old) }
-    ensures { out.new ≡ sets out.old 0 (flat_map (le word_width) (column width cells.now rows c)) }
-{
-    for i in 0..rows {
-        words::put_le(out, WORD_WIDTH * i, WORD_WIDTH, cells[width * i + c]);
-    }
+// Rows of so many words each, in order: a table, or its sums.
+#[derive(Clone, Copy)]
+struct Cells<'a> {
+    words: &'a [u64],
+    width: usize,
+    rows: usize,
+    ghost whole: { (rows ≤ max_rows) × (width * rows ≤ length words.now) },
 }
 
-// Stores the columns one after the other at the front of `out`.
-#[tactic(auto, using(crate::proofs::Blocks::block_end))]
-fn put_columns(cells: &[u64], width: usize, rows: usize, out: &mut [u8])
-    requires { (rows ≤ max_rows) × (width * rows ≤ length cells.now) × (word_width * rows * width ≤ length out.old) }
-    ensures { out.new ≡ sets out.old 0 (flat_map (le word_width) (columns width cells.now rows)) }
-{
-    for c in 0..width {
-        put_column(cells, width, rows, c, &mut out[WORD_WIDTH * rows * c..]);
+impl Cells<'_> {
+    // Stores column c, top to bottom, at the front of `out`.
+    #[tactic(auto, using(crate::proofs::Blocks::in_blocks))]
+    fn put_column(&self, c: usize, out: &mut [u8])
+        requires { (c < self.now.width) × (word_width * self.now.rows ≤ length out.old) }
+        ensures { out.new ≡ sets out.old 0 (flat_map (le word_width) (column self.now.width self.now.words.now self.now.rows c)) }
+    {
+        for i in 0..self.rows {
+            words::put_le(
+                out,
+                WORD_WIDTH * i,
+                WORD_WIDTH,
+                self.words[self.width * i + c],
+            );
+        }
+    }
+
+    // Stores the columns one after the other at the front of `out`.
+    #[tactic(auto, using(crate::proofs::Blocks::block_end))]
+    fn put_columns(&self, out: &mut [u8])
+        requires { word_width * self.now.rows * self.now.width ≤ length out.old }
+        ensures { out.new ≡ sets out.old 0 (flat_map (le word_width) (columns self.now.width self.now.words.now self.now.rows)) }
+    {
+        for c in 0..self.width {
+            self.put_column(c, &mut out[WORD_WIDTH * self.rows * c..]);
+        }
     }
 }
 
@@ -75,9 +91,19 @@ pub fn archive(table: &[u64], aux: &[u64], out: &mut [u8]) -> Result<(), Refusal
         return Err(Refusal::Unreduced);
     }
     words::put_le(out, 0, WORD_WIDTH, rows as u64);
-    let sums = WORD_WIDTH + WORD_WIDTH * rows * MainRow::WIDTH;
-    put_columns(table, MainRow::WIDTH, rows, &mut out[WORD_WIDTH..]);
-    put_columns(aux, AuxRow::WIDTH, rows, &mut out[sums..]);
+    let sums_at = WORD_WIDTH + WORD_WIDTH * rows * MainRow::WIDTH;
+    let main = Cells {
+        words: table,
+        width: MainRow::WIDTH,
+        rows,
+    };
+    let sums = Cells {
+        words: aux,
+        width: AuxRow::WIDTH,
+        rows,
+    };
+    main.put_columns(&mut out[WORD_WIDTH..]);
+    sums.put_columns(&mut out[sums_at..]);
     Ok(())
 }
 
@@ -90,71 +116,94 @@ pub fn archived_rows(bytes: &[u8]) -> usize
     words::word_at(bytes, 0) as usize
 }
 
-// Reason 10: the number of rows is too large, or the bytes are not as many as it says. It is tested before it is multiplied.
-#[tactic(auto, unfolding(crate::specs::Archives::torn))]
-fn torn(bytes: &[u8]) -> Result<(), Refusal>
-    ensures { result ≡ torn_of bytes.now }
-{
-    if bytes.len() < WORD_WIDTH {
-        return Err(Refusal::Torn);
-    }
-    let rows = archived_rows(bytes);
-    if MAX_ROWS < rows {
-        return Err(Refusal::Torn);
-    }
-    if bytes.len() != archive_length(rows) {
-        return Err(Refusal::Torn);
-    }
-    Ok(())
+// Rows of so many words each, whose columns stand side by side in the bytes, from word `from` on.
+#[derive(Clone, Copy)]
+struct StoredColumns<'a> {
+    bytes: &'a [u8],
+    from: usize,
+    width: usize,
+    rows: usize,
+    ghost whole: { word_width * (from + rows * width) ≤ length bytes.now },
 }
 
-// Every word of the columns is below p.
-fn words_reduced(bytes: &[u8], rows: usize) -> bool
-    requires { (rows ≡ archived_rows bytes.now) × (rows ≤ max_rows) × (archive_length rows ≤ length bytes.now) }
-    ensures { result ≡ all_reduced (archived_words bytes.now) }
-{
-    let end = 1 + (MainRow::WIDTH + AuxRow::WIDTH) * rows;
-    (1..end).all(|k| words::word_at(bytes, WORD_WIDTH * k) < BFieldElement::P)
+impl StoredColumns<'_> {
+    // Stores row i.
+    #[tactic(auto, using(crate::proofs::Blocks::in_blocks))]
+    fn put_row(&self, i: usize, to: &mut [u64])
+        requires { (i < self.now.rows) × (self.now.width * self.now.rows ≤ length to.old) }
+        ensures { to.new ≡ sets to.old (self.now.width * i) (map (λ c. archived_word self.now.bytes.now (self.now.from + (self.now.rows * c + i))) (places self.now.width)) }
+    {
+        for c in 0..self.width {
+            to[self.width * i + c] = words::word_at(
+                self.bytes,
+                WORD_WIDTH * (self.from + (self.rows * c + i)),
+            );
+        }
+    }
+
+    // Stores the rows one after the other.
+    fn put_rows(&self, to: &mut [u64])
+        requires { self.now.width * self.now.rows ≤ length to.old }
+        ensures { to.new ≡ sets to.old 0 (rows_from self.now.bytes.now self.now.from self.now.width self.now.rows) }
+    {
+        for i in 0..self.rows {
+            self.put_row(i, to);
+        }
+    }
 }
 
-// The first reason against restoring the bytes onto a table and its sums.
-#[tactic(auto, using(crate::proofs::Reasons::whole), unfolding(crate::specs::Archives::restore_reason, crate::specs::Archives::shapes))]
-fn judge_restoring(bytes: &[u8], table: &[u64], aux: &[u64]) -> Result<(), Refusal>
-    ensures { result ≡ restore_reason bytes.now table.now aux.now }
+// Bytes that are as many as their row count says.
+#[derive(Clone, Copy)]
+struct Archived<'a> {
+    bytes: &'a [u8],
+    rows: usize,
+    ghost whole: { (rows ≡ archived_rows bytes.now) × (rows ≤ max_rows) × (length bytes.now ≡ archive_length rows) },
+}
+
+impl<'a> Archived<'a> {
+    // The bytes with their row count. Reason 10: that is too large, or the bytes are not as many as it says. It is tested before it is multiplied.
+    #[tactic(auto, unfolding(crate::specs::Archives::torn))]
+    fn judge(bytes: &'a [u8]) -> Result<Archived<'a>, Refusal>
+        ensures { MatchResult result (λ archived. (archived.bytes.now ≡ bytes.now) × (torn bytes.now ≡ Fine)) (λ reason. torn bytes.now ≡ Declined reason) }
+    {
+        if bytes.len() < WORD_WIDTH {
+            return Err(Refusal::Torn);
+        }
+        let rows = archived_rows(bytes);
+        if MAX_ROWS < rows {
+            return Err(Refusal::Torn);
+        }
+        if bytes.len() != archive_length(rows) {
+            return Err(Refusal::Torn);
+        }
+        Ok(Archived { bytes, rows })
+    }
+
+    // Every word of the columns is below p.
+    fn words_reduced(&self) -> bool
+        ensures { result ≡ all_reduced (archived_words self.now.bytes.now) }
+    {
+        let end = 1 + (MainRow::WIDTH + AuxRow::WIDTH) * self.rows;
+        (1..end).all(|k| words::word_at(self.bytes, WORD_WIDTH * k) < BFieldElement::P)
+    }
+}
+
+// What is to be restored onto a table and its sums, or the first reason against it.
+#[tactic(auto, unfolding(crate::specs::Archives::restore_reason, crate::specs::Archives::shapes))]
+fn judge_restoring<'a>(bytes: &'a [u8], table: &[u64], aux: &[u64]) -> Result<Archived<'a>, Refusal>
+    ensures { MatchResult result (λ archived. (archived.bytes.now ≡ bytes.now) × (restore_reason bytes.now table.now aux.now ≡ Fine)) (λ reason. restore_reason bytes.now table.now aux.now ≡ Declined reason) }
 {
     if !have_shapes(table, aux) {
         return Err(Refusal::Shape);
     }
-    torn(bytes)?;
-    let rows = archived_rows(bytes);
-    if table.len() / MainRow::WIDTH < rows {
+    let archived = Archived::judge(bytes)?;
+    if table.len() / MainRow::WIDTH < archived.rows {
         return Err(Refusal::Short);
     }
-    if !words_reduced(bytes, rows) {
+    if !archived.words_reduced() {
         return Err(Refusal::Unreduced);
     }
-    Ok(())
-}
-
-// Stores row i of so many words, whose columns begin at word `from` of the bytes.
-#[tactic(auto, using(crate::proofs::Blocks::in_blocks))]
-fn put_row(bytes: &[u8], from: usize, width: usize, rows: usize, i: usize, to: &mut [u64])
-    requires { (i < rows) × (word_width * (from + rows * width) ≤ length bytes.now) × (width * rows ≤ length to.old) }
-    ensures { to.new ≡ sets to.old (width * i) (map (λ c. archived_word bytes.now (from + (rows * c + i))) (places width)) }
-{
-    for c in 0..width {
-        to[width * i + c] = words::word_at(bytes, WORD_WIDTH * (from + (rows * c + i)));
-    }
-}
-
-// Stores the rows one after the other.
-fn put_rows(bytes: &[u8], from: usize, width: usize, rows: usize, to: &mut [u64])
-    requires { (word_width * (from + rows * width) ≤ length bytes.now) × (width * rows ≤ length to.old) }
-    ensures { to.new ≡ sets to.old 0 (rows_from bytes.now from width rows) }
-{
-    for i in 0..rows {
-        put_row(bytes, from, width, rows, i, to);
-    }
+    Ok(archived)
 }
 
 // Gives the table and its sums back. It refuses a destination of the wrong shape, bytes that are no archive, a destination of too few rows, and a word
@@ -163,9 +212,20 @@ fn put_rows(bytes: &[u8], from: usize, width: usize, rows: usize, to: &mut [u64]
 pub fn restore(bytes: &[u8], table: &mut [u64], aux: &mut [u64]) -> Result<(), Refusal>
     ensures { Leaves (restore_all bytes.now table.old aux.old) (completed_answer result) (table_and_aux table.new aux.new) }
 {
-    judge_restoring(bytes, table, aux)?;
-    let rows = archived_rows(bytes);
-    put_rows(bytes, 1, MainRow::WIDTH, rows, table);
-    put_rows(bytes, 1 + rows * MainRow::WIDTH, AuxRow::WIDTH, rows, aux);
+    let archived = judge_restoring(bytes, table, aux)?;
+    let main = StoredColumns {
+        bytes,
+        from: 1,
+        width: MainRow::WIDTH,
+        rows: archived.rows,
+    };
+    let sums = StoredColumns {
+        bytes,
+        from: 1 + archived.rows * MainRow::WIDTH,
+        width: AuxRow::WIDTH,
+        rows: archived.rows,
+    };
+    main.put_rows(table);
+    sums.put_rows(aux);
     Ok(())
 }

@@ -1,16 +1,17 @@
--- Printed rows: how long their lines can be, that parts of them are the whole (rows_join), and a turn of the loop that puts them. Assumes nothing.
-use Prim.Native.Nat.{ℕ, zero, suc, ◌+◌, ◌-◌, ◌*◌, ◌≤◌}
-use mathlib.Core.Path.{◌≡◌, sym, ap, ◌∙◌}
+-- Printed rows: the words of a row and of its sum as blocks of the two arrays, how long their lines can be, that parts of them are the whole (rows_join),
+-- and a turn of the loop that puts them. Assumes nothing.
+use Prim.Native.Nat.{ℕ, zero, suc, ◌+◌, ◌-◌, ◌*◌, ◌≤◌, ◌<◌}
+use mathlib.Core.Path.{◌≡◌, refl, sym, ap, ap₂, ◌∙◌}
 use mathlib.Core.List.{List, [], ◌∷◌, ◌++◌, append-nil, append_assoc}
 use native.Mathlib.Nat.{add-zero, add-suc}
 use native.Mathlib.Numerals.{add-one}
 use native.Mathlib.Omega.{arith}
-use lib.ListN.{length, get_or, take, drop, length-append}
-use lib.Seq.{take_at, drop_at}
+use lib.ListN.{length, get_or, take, drop, length-append, length-drop}
+use lib.Seq.{take_at, drop_at, drop-drop}
 use borrow.Rule.Slice.PartMut.{put_mid}
 use Rattle.transcript.proofs.Rows.{words_at, part_words, row_words_lem}
 use Rattle.xfield.specs.Extension.{Ext}
-use Rattle.table.specs.Columns.{Row, row_at, aux_at, element_at, main_width}
+use Rattle.table.specs.Columns.{Row, row_at, aux_at, element_at, main_width, aux_width}
 use Rattle.table.specs.RowWords.{row_words}
 use Rattle.sums.specs.RunningSum.{element_words}
 use Rattle.text.specs.Lines.{row_line}
@@ -25,27 +26,45 @@ thirteen_bound r x =
     row_bound r.copy_flag
     (r.bits ∷ r.bits_minus33_inv ∷ r.ci ∷ r.lhs ∷ r.lhs_inv ∷ r.rhs ∷ r.rhs_inv ∷ r.result ∷ r.lookup_multiplicity ∷ element_words x)
 
--- the ten words of a row and the three of its sum, one after the other
-module _ (table aux : List ℕ) (i : ℕ) (row : main_width * i + main_width ≤ length table) (sum : 3 * i + 3 ≤ length aux) where
-  sum_words_lem : take (3 * i + 3 - 3 * i) (drop (3 * i) aux) ≡ element_words (aux_at aux i)
-  unfolding element_at
-  sum_words_lem =
-      let e : 3 * i + 3 - 3 * i ≡ 3 = omega arith in
-      rw e
-      (ap (λ (j : ℕ). take 3 (drop j aux)) (sym (add-zero (3 * i)))
-      ∙ part_words aux (3 * i) 0 3 (omega arith)
-      ∙ ap (λ (j : ℕ). get_or aux j 0 ∷ words_at aux (3 * i) 1 2) (add-zero (3 * i)))
+-- the ten words of row i, and the three of its sum, as parts of the two arrays
+row_part : (table : List ℕ) (i : ℕ) → main_width * i + main_width ≤ length table → take main_width (drop (main_width * i) table) ≡ row_words (row_at table i)
+row_part table i h =
+    let e : main_width * i + main_width - main_width * i ≡ main_width = omega arith in
+    rw e at (row_words_lem table i h)
 
-  -- thirteen words, the first ten written over and then the last three
-  pub words_copied : {ten three : List ℕ}
-      → ten ≡ take (main_width * i + main_width - main_width * i) (drop (main_width * i) table)
-      → three ≡ take (3 * i + 3 - 3 * i) (drop (3 * i) aux)
-      → put_mid main_width 3 (ten ++ (0 ∷ 0 ∷ 0 ∷ [])) three ≡ printed_row table aux i
-  words_copied {ten} {three} e f =
-      let t : ten ≡ row_words (row_at table i) = e ∙ row_words_lem table i row in
-      let l : length ten ≡ main_width = ap length t in
-      rw (take_at ten (0 ∷ 0 ∷ 0 ∷ []) main_width l, drop_at ten (0 ∷ 0 ∷ 0 ∷ []) main_width l, append-nil)
-      (rw (t, f ∙ sum_words_lem))
+sum_part : (aux : List ℕ) (i : ℕ) → aux_width * i + aux_width ≤ length aux → take aux_width (drop (aux_width * i) aux) ≡ element_words (aux_at aux i)
+unfolding element_at
+sum_part aux i h =
+    ap (λ (j : ℕ). take aux_width (drop j aux)) (sym (add-zero (aux_width * i)))
+    ∙ part_words aux (aux_width * i) 0 aux_width (omega arith)
+    ∙ ap (λ (j : ℕ). get_or aux j 0 ∷ words_at aux (aux_width * i) 1 2) (add-zero (aux_width * i))
+
+-- thirteen words, of which the first ten are written over, and then the last three
+pub words_joined : {ten three row sum : List ℕ} → ten ≡ row → three ≡ sum → length row ≡ main_width
+    → put_mid main_width aux_width (ten ++ (0 ∷ 0 ∷ 0 ∷ [])) three ≡ row ++ sum
+words_joined {row = row} {sum = sum} e f h =
+    rw (e, f, take_at row (0 ∷ 0 ∷ 0 ∷ []) main_width h, drop_at row (0 ∷ 0 ∷ 0 ∷ []) main_width h, append-nil) refl
+
+-- the block of w words at number i comes, and the words of the others are left
+module _ (w i : ℕ) (xs block rest : List ℕ) (comes : drop (w * i) xs ≡ block ++ rest) (whole : length block ≡ w) where
+  block_lem : block ≡ take w (drop (w * i) xs)
+  block_lem = sym (take_at block rest w whole) ∙ ap (take w) (sym comes)
+
+  block_within : 0 < w → w * i + w ≤ length xs
+  block_within h = omega (arith, ap length comes, length-drop (w * i) xs, length-append block rest)
+
+  pub left_lem : (j : ℕ) → j ≡ i + 1 → rest ≡ drop (w * j) xs
+  left_lem j next =
+      let e : w * i + w ≡ w * j = rw next (omega arith) in
+      sym (drop_at block rest w whole) ∙ ap (drop w) (sym comes) ∙ drop-drop w (w * i) xs ∙ ap (λ (k : ℕ). drop k xs) e
+
+-- a row comes with its sum
+pub pair_lem : (table aux : List ℕ) (i : ℕ) (row words sum sums : List ℕ) → drop (main_width * i) table ≡ row ++ words → length row ≡ main_width
+    → drop (aux_width * i) aux ≡ sum ++ sums → length sum ≡ aux_width → row ++ sum ≡ printed_row table aux i
+pair_lem table aux i row words sum sums e l f m =
+    ap₂ (λ (a b : List ℕ). a ++ b)
+    (block_lem main_width i table row words e l ∙ row_part table i (block_within main_width i table row words e l (omega arith)))
+    (block_lem aux_width i aux sum sums f m ∙ sum_part aux i (block_within aux_width i aux sum sums f m (omega arith)))
 
 module _ (table aux : List ℕ) where
   pub line_bound : (i : ℕ) → length (row_line (printed_row table aux i)) ≤ max_row_line

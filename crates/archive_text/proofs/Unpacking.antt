@@ -1,12 +1,12 @@
 -- What is due for an archive: a line where it has too many rows, or where restoring is refused; else its rows, at most as many as are taken
 -- (few_rows). Assumes nothing.
 use Prim.Native.Nat.{ℕ, ◌≤◌, ◌<◌}
-use mathlib.Core.Path.{◌≡◌, refl, sym, ◌∙◌}
-use mathlib.Core.Bool.{Bool, true, false, and-eq-true_iff}
+use mathlib.Core.Path.{◌≡◌, refl, sym}
+use mathlib.Core.Bool.{Bool, true, false}
 use mathlib.Core.List.{List}
 use native.Mathlib.Omega.{arith}
-use borrow.Author.Tests.{le-leb, lt-leb, le-ltb, lt-ltb, leb-true, ltb-true, ltb-false}
-use lib.Dec.{ltb, leb}
+use borrow.Author.Tests.{le-leb, lt-ltb, ltb-true, ltb-false}
+use lib.Dec.{ltb}
 use lib.ListN.{length}
 use Rattle.std.specs.Prelude.{Result, Ok, Err}
 use Rattle.words.specs.Limits.{max_rows}
@@ -25,23 +25,10 @@ use Rattle.archive_text.specs.Unpacking.{printed_rows, too_many_rows, unpack_all
 use Rattle.archive_text.proofs.Outputs.{output_refused, output_made}
 
 -- ---- the row count
-module _ (s : List ℕ) where
-  pub no_count : length s < word_width → false ≡ too_many_rows s
-  unfolding too_many_rows
-  no_count h = rw (lt-leb word_width (length s) h)
-
-  module _ (has : word_width ≤ length s) (n : ℕ) (e : n ≡ archived_rows s) where
-    pub not_too_many : n ≤ most_rows → false ≡ too_many_rows s
-    unfolding too_many_rows
-    not_too_many h = rw (le-leb word_width (length s) has, ← e, le-ltb most_rows n h)
-
-    pub above_most : most_rows < n → leb n max_rows ≡ too_many_rows s
-    unfolding too_many_rows
-    above_most h = rw (le-leb word_width (length s) has, ← e, lt-ltb most_rows n h)
-
-  pub too_many_count : too_many_rows s ≡ true → word_width ≤ length s
-  unfolding too_many_rows
-  too_many_count e = leb-true word_width (length s) ((and-eq-true_iff (leb word_width (length s)) _).0 e).0
+pub above_most : (s : List ℕ) → word_width ≤ length s → most_rows < archived_rows s → archived_rows s ≤ max_rows → too_many_rows s ≡ true
+unfolding too_many_rows
+above_most s has more few =
+    rw (le-leb word_width (length s) has, lt-ltb most_rows (archived_rows s) more, le-leb (archived_rows s) max_rows few) refl
 
 -- ---- what is due
 module _ (s table aux : List ℕ) where
@@ -70,15 +57,12 @@ module _ (s table aux : List ℕ) where
 
       pub few_rows : archived_rows s ≤ most_rows
       few_rows = go (ltb most_rows (archived_rows s)) refl where
-        above : too_many_rows s ≡ true → ⊥
-        above e = let z : ◌≡◌ {A = ℕ} 0 1 = cc in omega arith
-
         go : (b : Bool) → ltb most_rows (archived_rows s) ≡ b → archived_rows s ≤ most_rows
         go false e = ltb-false most_rows (archived_rows s) e
         go true e =
-            let most = le-leb (archived_rows s) max_rows (restorable s table aux restore_fine).complete.few in
-            let more = above_most s restored_count (archived_rows s) refl (ltb-true most_rows (archived_rows s) e) in
-            absurd (above (sym more ∙ most))
+            let more = ltb-true most_rows (archived_rows s) e in
+            let many : too_many_rows s ≡ true = above_most s restored_count more (restorable s table aux restore_fine).complete.few in
+            absurd (cc (few, many))
 
 -- ---- what is put
 module _ (due : Output) (table aux : List ℕ) {r : Result ℕ Fault} (step : IsRestored due table aux r) where

@@ -2,16 +2,18 @@
 // either case to a line for standard error.
 #![tactic(auto)]
 
-ghost use Rattle.std.specs.Prelude.{◌+◌, ◌*◌, ◌≤◌, false, ◌≡◌, length, replicate, Ok};
+ghost use Rattle.std.specs.Prelude.{◌+◌, ◌*◌, ◌≤◌, false, true, ◌≡◌, ◌++◌, length, replicate, Ok, MatchResult};
+ghost use Rattle.archive.specs.Archives.{archived_rows};
 ghost use Rattle.text.specs.Lines.{row_line};
 ghost use Rattle.text.specs.Put.{Put, HasRoom, Adds};
+ghost use Rattle.numbers.specs.declared.Fault.TheVariants.{TooMany};
 ghost use Rattle.table_text.specs.TableText.{max_words, most_rows, Within};
 ghost use Rattle.table_text.specs.Answers.{max_answer};
 ghost use Rattle.archive_text.specs.Asking.{Asks};
 ghost use Rattle.archive_text.specs.Outputs.{fault_line};
 ghost use Rattle.archive_text.specs.declared.Fault.TheVariants.{Taken, Refused};
 ghost use Rattle.archive_text.specs.Packing.{pack_table, pack_taken, pack_ended, max_archive, IsArchived, IsPacked};
-ghost use Rattle.archive_text.specs.Unpacking.{printed_row, printed_rows, too_many_rows, unpack_all, max_row_line, IsRestored, IsUnpacked};
+ghost use Rattle.archive_text.specs.Unpacking.{printed_rows, too_many_rows, unpack_all, max_row_line, IsRestored, IsUnpacked};
 
 use numbers::Reader;
 use table::{AuxRow, MainRow};
@@ -33,9 +35,6 @@ pub const TABLE_WORDS: usize = MainRow::WIDTH * MAX_ROWS as usize;
 
 // No line of a row is longer: thirteen numbers, and what follows each.
 pub const MAX_ROW_LINE: usize = 21 * ROW_WORDS;
-
-// No line that says why there is nothing is longer.
-pub const MAX_FAULT_LINE: usize = 256;
 
 // What the program is asked for.
 #[derive(Clone, Copy)]
@@ -136,8 +135,8 @@ fn pack_table(
 }
 
 // The archive for a text that has a table of so many rows.
-// No plainer with `words`, `aux` and `out` as one struct: lent, each `ensures` has to say besides that they are the same three; moved, it cannot be
-// passed on.
+// No plainer with `words`, `aux` and `out` as one struct: lent, each `ensures` has to say besides that it still holds the caller's three; moved, it
+// cannot be passed on.
 fn pack_rows(words: &[u64], rows: usize, aux: &mut [u64], out: &mut [u8]) -> Result<usize, Fault>
     requires { (max_words ≤ length words.now) × (3 * most_rows ≤ length aux.old) × (max_archive ≤ length out.old) × (rows ≤ most_rows) }
     ensures { IsArchived (pack_taken (Ok rows) words.now aux.old) out.old out.new result }
@@ -181,38 +180,28 @@ pub fn pack(
 }
 
 // ---- unpack
-// The row count is one that an archive may have, above the most that is taken.
-fn has_too_many(bytes: &[u8]) -> bool
-    ensures { result ≡ too_many_rows bytes.now }
+// Refuses a row count that an archive may have, above the most that is taken.
+#[tactic(auto, unfolding(crate::specs::Unpacking::too_many_rows))]
+fn judge_count(bytes: &[u8]) -> Result<(), numbers::Fault>
+    ensures { MatchResult result (λ _. too_many_rows bytes.now ≡ false) (λ fault. (too_many_rows bytes.now ≡ true) × (fault ≡ TooMany (archived_rows bytes.now))) }
 {
     if bytes.len() < COUNT_BYTES {
-        return false;
+        return Ok(());
     }
     let rows = archive::archived_rows(bytes);
-    if rows <= MAX_ROWS as usize {
-        return false;
+    if (MAX_ROWS as usize) < rows && rows <= words::MAX_ROWS {
+        return Err(numbers::Fault::TooMany(rows as u64));
     }
-    rows <= words::MAX_ROWS
-}
-
-// Restores an archive that has not too many rows; answers how many there are.
-fn unpack_rows(bytes: &[u8], table: &mut [u64], aux: &mut [u64]) -> Result<usize, Fault>
-    requires { too_many_rows bytes.now ≡ false }
-    ensures { IsRestored (unpack_all bytes.now table.old aux.old) table.new aux.new result }
-{
-    archive::restore(bytes, table, aux)?;
-    Ok(archive::archived_rows(bytes))
+    Ok(())
 }
 
 // Restores an archive; answers how many rows there are.
 fn unpack_all(bytes: &[u8], table: &mut [u64], aux: &mut [u64]) -> Result<usize, Fault>
     ensures { IsRestored (unpack_all bytes.now table.old aux.old) table.new aux.new result }
 {
-    if has_too_many(bytes) {
-        let rows = archive::archived_rows(bytes) as u64;
-        return Err(Fault::Taken(numbers::Fault::TooMany(rows)));
-    }
-    unpack_rows(bytes, table, aux)
+    judge_count(bytes)?;
+    archive::restore(bytes, table, aux)?;
+    Ok(archive::archived_rows(bytes))
 }
 
 // Restores an archive onto the lent rows and sums: so many of them are to be printed, on standard output; or the line at the front of `out` says why
@@ -234,16 +223,14 @@ pub fn unpack(
 }
 
 // Puts the line of a row: its ten words, and the three of its sum.
-fn put_row(text: &mut Text, table: &[u64], aux: &[u64], row: usize)
-    requires { (10 * row + 10 ≤ length table.now) × (3 * row + 3 ≤ length aux.now) × HasRoom text.old max_row_line }
-    ensures { Adds text.old (row_line (printed_row table.now aux.now row)) text.new }
+fn put_row(text: &mut Text, row: &[u64], sum: &[u64])
+    requires words { (length row.now ≡ 10) × (length sum.now ≡ 3) }
+    requires room { HasRoom text.old (length (row_line (row.now ++ sum.now))) }
+    ensures { Adds text.old (row_line (row.now ++ sum.now)) text.new }
 {
-    // By number, not by `chunks_exact` of the two arrays, zipped: those would have to be passed over up to the first row that is put.
-    let k = MainRow::WIDTH * row;
-    let j = AuxRow::WIDTH * row;
     let mut words = [0u64; ROW_WORDS];
-    words[..MainRow::WIDTH].copy_from_slice(&table[k..k + MainRow::WIDTH]);
-    words[MainRow::WIDTH..].copy_from_slice(&aux[j..j + AuxRow::WIDTH]);
+    words[..MainRow::WIDTH].copy_from_slice(row);
+    words[MainRow::WIDTH..].copy_from_slice(sum);
     text.put_row(&words);
 }
 
@@ -253,8 +240,10 @@ pub fn put_rows(table: &[u64], aux: &[u64], from: usize, rows: usize, out: &mut 
     ensures { Put out.old 0 (printed_rows table.now aux.now from rows) out.new result }
 {
     let mut text = Text::new(out);
-    for i in 0..rows {
-        put_row(&mut text, table, aux, from + i);
+    let words = table[MainRow::WIDTH * from..].chunks_exact(MainRow::WIDTH);
+    let sums = aux[AuxRow::WIDTH * from..].chunks_exact(AuxRow::WIDTH);
+    for (row, sum) in words.zip(sums).take(rows) {
+        put_row(&mut text, row, sum);
     }
     text.len()
 }

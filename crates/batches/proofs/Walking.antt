@@ -3,18 +3,15 @@
 use Prim.Native.Nat.{ℕ, zero, suc, ◌+◌, ◌*◌, ◌^◌, ◌-◌, ◌≤◌, ◌<◌}
 use mathlib.Core.Path.{◌≡◌, refl, sym, ap, ◌∙◌}
 use mathlib.Core.Bool.{false, ◌||◌}
-use mathlib.Core.List.{List, [], ◌∷◌, ◌++◌, flat_map, append_assoc}
+use mathlib.Core.List.{List, [], ◌∷◌, flat_map}
 use native.Mathlib.Numerals.{add-one}
 use native.Mathlib.Omega.{arith}
 use borrow.Author.Tests.{lt-ltb, le-ltb, ltb-false}
 use lib.Dec.{eqb, ltb}
 use lib.ListN.{length, get_or, take, drop, length-drop, drop_of_length-le}
-use lib.Seq.{sets, sets-eq, drop-cons}
-use borrow.Rule.Slice.PartMut.{put_mid}
+use lib.Seq.{sets, drop-cons}
 use Rattle.std.proofs.lemmas.Bool.{or_parts}
 use Rattle.std.proofs.lemmas.List.{take_rest}
-use Rattle.std.proofs.lemmas.List.Edits.{paste_all}
-use Rattle.std.proofs.lemmas.Slice.{put_mid-paste}
 use Rattle.words.specs.Answers.{done}
 use Rattle.words.specs.Limits.{max_rows, max_jobs}
 use Rattle.words.specs.Refusals.{Fine, decline_if}
@@ -176,17 +173,6 @@ write_starts {results = results} e z = record {
   rows = let l = ap all_rows e in omega arith;
   held = rw (z, e) refl;
 }
-
--- the words of a batch, copied to their place
-pub words_put : (results words copied : List ℕ) (place : ℕ) (b : Batch) → words ≡ batch_words b → copied ≡ words → 3 * place + 3 ≤ length results
-    → put_mid (3 * place) (3 * place + 3 - 3 * place) results copied ≡ sets results (3 * place) (batch_words b)
-words_put results words copied place b e f h =
-    let n : 3 * place + 3 - 3 * place ≡ 3 = omega arith in
-    put_mid-paste (3 * place) _ results copied (batch_words b) _ (f ∙ e) refl n
-    ∙ paste_all results (3 * place) (batch_words b) _ n
-    ∙ ap (λ (k : ℕ). take (3 * place) results ++ (batch_words b ++ drop (3 * place + k) results)) n
-    ∙ sym (append_assoc (take (3 * place) results) (batch_words b) (drop (3 * place + 3) results))
-    ∙ sym (sets-eq (batch_words b) results (3 * place) h)
 
 module _ {all left : List Batch} {results₀ results : List ℕ} {place : ℕ} (w : Written all left results₀ results place) where
   pub write_step : {b : Batch} {after : List Batch} {written : List ℕ} {here next : ℕ} → left ≡ b ∷ after → here ≡ place → next ≡ place + 1

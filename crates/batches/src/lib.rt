@@ -24,6 +24,28 @@ pub struct Batch {
     pub rows: u64,
 }
 
+impl Batch {
+    // What it lacks to its padded height.
+    fn padding(self) -> u64
+        requires { self.rows ≤ 2 ^ 62 }
+        ensures { result ≡ padded_height self.rows - self.rows }
+    {
+        list_record::padded_height(self.rows) - self.rows
+    }
+
+    // Its words among the results.
+    fn words(self) -> [u64; BATCH_WIDTH]
+        requires { self.rows ≤ 2 ^ 62 }
+        ensures { result ≡ batch_words self }
+    {
+        [
+            self.jobs as u64,
+            self.rows,
+            list_record::padded_height(self.rows),
+        ]
+    }
+}
+
 // What a setting gives: the number of batches, all their rows, and what they lack to their padded heights.
 #[derive(Clone, Copy)]
 pub struct Totals {
@@ -108,14 +130,6 @@ impl<'a> EachBatch<'a> {
     }
 }
 
-// What a batch lacks to its padded height.
-fn batch_padding(rows: u64) -> u64
-    requires { rows ≤ 2 ^ 62 }
-    ensures { result ≡ padded_height rows - rows }
-{
-    list_record::padded_height(rows) - rows
-}
-
 // The totals of the batches, none of which is written.
 fn tally(each: EachBatch) -> Totals
     ensures { trial_answer (Ok result) ≡ trial_all each.entry.jobs.now each.entry.setting }
@@ -128,7 +142,7 @@ fn tally(each: EachBatch) -> Totals
     for batch in each {
         totals.count += 1;
         totals.rows += batch.rows;
-        totals.padding += batch_padding(batch.rows);
+        totals.padding += batch.padding();
     }
     totals
 }
@@ -140,26 +154,13 @@ pub fn try_setting(jobs: &[u64], setting: u64) -> Result<Totals, Refusal>
     Ok(tally(EachBatch::new(jobs, setting)?))
 }
 
-// The words of a batch among the results.
-fn batch_words(batch: Batch) -> [u64; BATCH_WIDTH]
-    requires { batch.rows ≤ 2 ^ 62 }
-    ensures { result ≡ batch_words batch }
-{
-    [
-        batch.jobs as u64,
-        batch.rows,
-        list_record::padded_height(batch.rows),
-    ]
-}
-
 // Writes all batches, which have places.
 fn write_batches(each: EachBatch, results: &mut [u64])
     requires { 3 * length (batches_of each.setting each.jobs.now) ≤ length results.old }
     ensures { results.new ≡ sets results.old 0 (flat_map batch_words (batches_of each.entry.setting each.entry.jobs.now)) }
 {
     for (place, batch) in each.enumerate() {
-        let at = BATCH_WIDTH * place;
-        results[at..at + BATCH_WIDTH].copy_from_slice(&batch_words(batch));
+        words::put_record(results, place, batch.words());
     }
 }
 

@@ -15,6 +15,13 @@ abbrev pub stated_answer : Result (List ℕ) Refusal → Answer
 stated_answer (Ok values) = done values
 stated_answer (Err reason) = declined reason
 
+-- a call's answer, and the same with its words: `Converts` says how an answer converts to words
+abbrev pub InWords : {A : Type 0} → (Converts : A → List ℕ → Type 0) → Result A Refusal → Result (List ℕ) Refusal → Type 0
+InWords Converts (Ok given) (Ok words) = Converts given words
+InWords Converts (Err reason) (Err due) = due ≡ reason
+InWords Converts (Ok given) (Err due) = ⊥
+InWords Converts (Err reason) (Ok words) = ⊥
+
 -- "less, equal or greater": 0, 1 or 2
 abbrev pub order_number : Ordering → ℕ
 order_number Less = 0

@@ -2,9 +2,11 @@
 // refusals are numbers and further answers are words of a lent array is the C interface.
 #![tactic(auto)]
 
-ghost use Rattle.std.specs.Prelude.{◌≡◌, ◌≤◌, length};
+ghost use Rattle.std.specs.Prelude.{◌≡◌, ◌≤◌, ◌<◌, length};
+ghost use Rattle.words.specs.Refusals.{refusal_number};
 ghost use Rattle.words.specs.Outcomes.{completed_answer};
-ghost use Rattle.c_answers.specs.Exports.{Exported, stated_answer, order_number};
+ghost use Rattle.words.specs.declared.Refusal.TheVariants.{Shape};
+ghost use Rattle.c_answers.specs.Exports.{Exported, InWords, stated_answer, order_number};
 
 use std::cmp::Ordering;
 use words::Refusal;
@@ -21,16 +23,34 @@ pub fn number(done: Result<(), Refusal>) -> u64
 
 // The number of a call whose values become the first words of `answers`; a refusal writes nothing.
 pub fn stated<const N: usize>(answers: &mut [u64], due: Result<[u64; N], Refusal>) -> u64
-    requires { N ≤ length answers.old }
     ensures { Exported N (stated_answer due.entry) answers.old result answers.new }
 {
+    let Some(words) = answers.first_chunk_mut::<N>() else {
+        return SHAPE;
+    };
     match due {
         Ok(values) => {
-            answers[..N].copy_from_slice(&values);
+            *words = values;
             0
         }
         Err(reason) => u64::from(reason),
     }
+}
+
+// The number of a call that is made only where `answers` has the words that it states: else all that it was lent stays as it was.
+// `call` is lent as `&mut`, so that what it has changed is known afterwards. It gives an `A` that is those words, since the bound of a closure can't name `N`.
+pub fn answered<const N: usize, A: Into<[u64; N]>, F: FnMut() -> Result<A, Refusal>>(
+    answers: &mut [u64],
+    call: &mut F,
+) -> u64
+    requires { F.pre call.old }
+    ensures short { length answers.old < N → (result ≡ refusal_number Shape) × ((answers.new ≡ answers.old) × (call.new ≡ call.old)) }
+    ensures called { N ≤ length answers.old → (given : _) × (due : _) × (F.step call.old given call.new × (InWords A.converts given due × Exported N (stated_answer due) answers.old result answers.new)) }
+{
+    if answers.len() < N {
+        return SHAPE;
+    }
+    stated::<N>(answers, call().map(A::into))
 }
 
 // 0 for less, 1 for equal, 2 for greater.

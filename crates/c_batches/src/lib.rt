@@ -3,27 +3,8 @@
 #![tactic(auto)]
 
 ghost use Rattle.std.specs.Prelude.{◌≡◌};
-ghost use Rattle.words.specs.Outcomes.{Leaves};
 ghost use Rattle.batches.specs.Batches.{batch_all};
-ghost use Rattle.c_answers.specs.Exports.{lent_due, stated_answer, Exported};
-
-use c_answers::SHAPE;
-use words::Refusal;
-
-// How many words of `answers` the call states.
-const BATCHES_ANSWERS: usize = 2;
-
-// The call, with its answers as words.
-fn batches_words(
-    jobs: &[u64],
-    setting: u64,
-    results: &mut [u64],
-) -> Result<[u64; BATCHES_ANSWERS], Refusal>
-    ensures { Leaves (batch_all jobs.now setting results.old) (stated_answer result) results.new }
-{
-    let batched = batches::batches(jobs, setting, results)?;
-    Ok([batched.count, batched.padding])
-}
+ghost use Rattle.c_answers.specs.Exports.{lent_due, Exported};
 
 // Answers: the number of batches and the padding.
 #[tactic(auto, unfolding(c_answers::specs::Exports::lent_due))]
@@ -31,8 +12,11 @@ pub fn batches(jobs: &[u64], setting: u64, results: &mut [u64], answers: &mut [u
     ensures answers { Exported 2 (batch_all jobs.now setting results.old).answer answers.old result answers.new }
     ensures results { results.new ≡ lent_due 2 answers.old results.old (batch_all jobs.now setting results.old).left }
 {
-    if answers.len() < BATCHES_ANSWERS {
-        return SHAPE;
-    }
-    c_answers::stated(answers, batches_words(jobs, setting, results))
+    c_answers::answered(
+        answers,
+        &mut || {
+            let batched = batches::batches(jobs, setting, results)?;
+            Ok([batched.count, batched.padding])
+        },
+    )
 }

@@ -1,8 +1,7 @@
 -- The answers of the calls on lists, as the C functions hand them over, and the arrays that they leave.
-use Rattle.std.specs.Prelude.{ℕ, ◌≡◌, List, [], ◌∷◌, ◌++◌, Result, Ok, Err}
-use Rattle.words.specs.Answers.{Answer, done, declined}
+use Rattle.std.specs.Prelude.{ℕ, ◌≡◌, List, [], ◌∷◌, ◌++◌}
+use Rattle.words.specs.Answers.{Answer, done}
 use Rattle.words.specs.Outcomes.{Outcome}
-use Rattle.words.specs.declared.Refusal.{Refusal}
 use Rattle.isa.specs.declared.U32TableEntry.{U32TableEntry}
 use Rattle.isa.specs.Entries.{compare_entries}
 use Rattle.list.specs.Lists.{used}
@@ -18,11 +17,6 @@ use Rattle.c_answers.specs.Exports.{order_number, lent_due, ListLeft, Exported, 
 abbrev pub with_used : Outcome Shared → Answer
 with_used due =
     record { number = due.answer.number; values = due.answer.values ++ (used due.left.own.list ∷ []) }
-
--- the two answers as the code has them, or the reason
-abbrev pub position_and_used : Result ℕ Refusal → (used : ℕ) → Answer
-position_and_used (Ok position) used = done (position ∷ used ∷ [])
-position_and_used (Err reason) used = declined reason
 
 -- the arrays of a call that is lent a recorder's own list and the other's arrays, afterwards: the own three, and the other's two
 pub record SharedLeft (size : ℕ) (answers : List ℕ) (before due : Shared) (ks ms hs : List ℕ) (other : Counts) : Type 0 where

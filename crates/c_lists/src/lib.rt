@@ -3,48 +3,20 @@
 // the arrays of a list as one thing.
 #![tactic(auto)]
 
-ghost use Rattle.std.specs.Prelude.{◌≡◌, [], ◌∷◌};
-ghost use Rattle.words.specs.Outcomes.{Leaves};
 ghost use Rattle.isa.specs.Entries.{entry};
-ghost use Rattle.list.specs.Lent.{held_in, held_in_mut, SameArrays};
-ghost use Rattle.list_record.specs.Plan.{plan_all};
-ghost use Rattle.list_replay.specs.Replay.{replayed_answer};
-ghost use Rattle.list_stored.specs.Stored.{write_all};
-ghost use Rattle.list_shared.specs.Shared.{read_shared};
-ghost use Rattle.list_shared.specs.Lent.{counts, counts_in, shared, SameCounts};
-ghost use Rattle.c_answers.specs.Exports.{lent_list, stated_answer, Exported};
-ghost use Rattle.c_lists.specs.ListAnswers.{position_and_used, compare_all};
+ghost use Rattle.list_shared.specs.Lent.{counts};
+ghost use Rattle.c_answers.specs.Exports.{lent_list, Exported};
+ghost use Rattle.c_lists.specs.ListAnswers.{compare_all};
 ghost use Rattle.c_lists.specs.ListAnswers.{RecordAnswers, RecordLeaves, HoldAnswers, HoldLeaves, ConfirmLeaves, DropLeaves};
 ghost use Rattle.c_lists.specs.ListAnswers.{ReplayAnswers, ReplayLeaves, PlanAnswers, ReadAnswers, ReadLeaves, WriteAnswers, WriteLeaves};
 
 use c_answers::{SHAPE, order_number};
 use isa::U32TableEntry;
 use list::{LentList, LentListMut, Sizes};
-use list_replay::Stopped;
 use list_shared::OtherCounts;
-use words::Refusal;
 
-// How many words of `answers` each call states.
-const RECORD_ANSWERS: usize = 2;
-
-const HOLD_ANSWERS: usize = 2;
-
+// How many words of `answers` a replay states.
 const REPLAY_ANSWERS: usize = 2;
-
-const COMPARE_ANSWERS: usize = 1;
-
-const PLAN_ANSWERS: usize = 2;
-
-const READ_ANSWERS: usize = 1;
-
-const WRITE_ANSWERS: usize = 1;
-
-// What a recording or a hold answers: the key's position, and the places used afterwards.
-fn with_used(position: Result<usize, Refusal>, used: usize) -> Result<[u64; 2], Refusal>
-    ensures { stated_answer result ≡ position_and_used position used }
-{
-    Ok([position? as u64, used as u64])
-}
 
 // Answers: the key's position, and the places used afterwards.
 #[tactic(auto, unfolding(c_answers::specs::Exports::lent_due))]
@@ -64,9 +36,6 @@ pub fn record_entry(
     ensures answers { RecordAnswers (lent_list capacity used keys.old multiplicities.old holds.old) (counts other_multiplicities.old other_holds.old) (entry opcode left_operand right_operand) answers.old result answers.new }
     ensures list { RecordLeaves (lent_list capacity used keys.old multiplicities.old holds.old) (counts other_multiplicities.old other_holds.old) (entry opcode left_operand right_operand) answers.old keys.new multiplicities.new holds.new (counts other_multiplicities.new other_holds.new) }
 {
-    if answers.len() < RECORD_ANSWERS {
-        return SHAPE;
-    }
     let mut list = LentListMut {
         sizes: Sizes { capacity, used },
         keys,
@@ -78,8 +47,13 @@ pub fn record_entry(
         holds: other_holds,
     };
     let entry = U32TableEntry::new(opcode, left_operand, right_operand);
-    let position = list_shared::record_shared(&mut list, &mut other, entry);
-    c_answers::stated(answers, with_used(position, list.sizes.used))
+    c_answers::answered(
+        answers,
+        &mut || {
+            let position = list_shared::record_shared(&mut list, &mut other, entry)?;
+            Ok([position as u64, list.sizes.used as u64])
+        },
+    )
 }
 
 // Answers: the key's position, and the places used afterwards.
@@ -100,9 +74,6 @@ pub fn hold_entry(
     ensures answers { HoldAnswers (lent_list capacity used keys.old multiplicities.old holds.old) (counts other_multiplicities.old other_holds.old) (entry opcode left_operand right_operand) answers.old result answers.new }
     ensures list { HoldLeaves (lent_list capacity used keys.old multiplicities.old holds.old) (counts other_multiplicities.old other_holds.old) (entry opcode left_operand right_operand) answers.old keys.new multiplicities.new holds.new (counts other_multiplicities.new other_holds.new) }
 {
-    if answers.len() < HOLD_ANSWERS {
-        return SHAPE;
-    }
     let mut list = LentListMut {
         sizes: Sizes { capacity, used },
         keys,
@@ -114,8 +85,13 @@ pub fn hold_entry(
         holds: other_holds,
     };
     let entry = U32TableEntry::new(opcode, left_operand, right_operand);
-    let at = list_shared::hold_shared(&mut list, &mut other, entry);
-    c_answers::stated(answers, with_used(at, list.sizes.used))
+    c_answers::answered(
+        answers,
+        &mut || {
+            let at = list_shared::hold_shared(&mut list, &mut other, entry)?;
+            Ok([at as u64, list.sizes.used as u64])
+        },
+    )
 }
 
 // It has no answers besides the number.
@@ -148,27 +124,7 @@ pub fn drop_hold(
     c_answers::number(list_record::drop_hold(sizes, keys, multiplicities, holds, position))
 }
 
-// What a replay tells, whether it stopped or not.
-#[derive(Clone, Copy)]
-struct Told {
-    number: u64,
-    done: usize,
-}
-
-// The number of a replay, and how many steps were done.
-fn tell(replayed: Result<usize, Stopped>) -> Told
-    ensures { record { number = result.number; values = result.done ∷ [] } ≡ replayed_answer replayed }
-{
-    match replayed {
-        Ok(done) => Told { number: 0, done },
-        Err(stopped) => Told {
-            number: u64::from(stopped.reason),
-            done: stopped.done,
-        },
-    }
-}
-
-// Answers, on a refusal too: the steps done, and the places used afterwards.
+// Answers, on a refusal too: the steps done, and the places used afterwards. So it is not handed to `answered`, which writes nothing on a refusal.
 #[tactic(auto, unfolding(c_answers::specs::Exports::lent_due))]
 pub fn replay(
     capacity: usize,
@@ -197,11 +153,13 @@ pub fn replay(
         multiplicities: other_multiplicities,
         holds: other_holds,
     };
-    let replayed = list_shared::replay_shared(&mut list, &mut other, trace);
-    let told = tell(replayed);
-    answers[0] = told.done as u64;
+    let (number, done) = match list_shared::replay_shared(&mut list, &mut other, trace) {
+        Ok(done) => (0, done),
+        Err(stopped) => (u64::from(stopped.reason), stopped.done),
+    };
+    answers[0] = done as u64;
     answers[1] = list.sizes.used as u64;
-    told.number
+    number
 }
 
 // Answers: 0 where the first entry is less, 1 where the two are equal, 2 where it is greater.
@@ -216,20 +174,9 @@ pub fn compare(
 ) -> u64
     ensures { Exported 1 (compare_all (entry opcode left_operand right_operand) (entry other_opcode other_left_operand other_right_operand)) answers.old result answers.new }
 {
-    if answers.len() < COMPARE_ANSWERS {
-        return SHAPE;
-    }
     let entry = U32TableEntry::new(opcode, left_operand, right_operand);
     let other = U32TableEntry::new(other_opcode, other_left_operand, other_right_operand);
-    c_answers::stated(answers, Ok([order_number(entry.compare(other))]))
-}
-
-// The call, with its answers as words.
-fn plan_words(list: &LentList) -> Result<[u64; PLAN_ANSWERS], Refusal>
-    ensures { stated_answer result ≡ plan_all (held_in list.now) }
-{
-    let heights = list_record::plan(list)?;
-    Ok([heights.height, heights.padded])
+    c_answers::answered(answers, &mut || Ok([order_number(entry.compare(other))]))
 }
 
 // Answers: the height and the padded height.
@@ -243,29 +190,19 @@ pub fn plan(
 ) -> u64
     ensures { PlanAnswers (lent_list capacity used keys.now multiplicities.now holds.now) answers.old result answers.new }
 {
-    if answers.len() < PLAN_ANSWERS {
-        return SHAPE;
-    }
     let list = LentList {
         sizes: Sizes { capacity, used },
         keys,
         multiplicities,
         holds,
     };
-    c_answers::stated(answers, plan_words(&list))
-}
-
-// The call, with its answers as words.
-fn read_words(
-    bytes: &[u8],
-    list: &mut LentListMut,
-    other: &mut OtherCounts,
-) -> Result<[u64; READ_ANSWERS], Refusal>
-    ensures outcome { Leaves (read_shared (held_in_mut list.old) (counts_in other.old) bytes.now) (stated_answer result) (shared (held_in_mut list.new) (counts_in other.new)) }
-    ensures same_arrays { SameArrays list.old list.new }
-    ensures same_counts { SameCounts other.old other.new }
-{
-    Ok([list_shared::read_shared(bytes, list, other)? as u64])
+    c_answers::answered(
+        answers,
+        &mut || {
+            let heights = list_record::plan(&list)?;
+            Ok([heights.height, heights.padded])
+        },
+    )
 }
 
 // Answers: the number of entries, which is the number of places used afterwards.
@@ -284,9 +221,6 @@ pub fn read(
     ensures answers { ReadAnswers (lent_list capacity used keys.old multiplicities.old holds.old) (counts other_multiplicities.old other_holds.old) bytes.now answers.old result answers.new }
     ensures list { ReadLeaves (lent_list capacity used keys.old multiplicities.old holds.old) (counts other_multiplicities.old other_holds.old) bytes.now answers.old keys.new multiplicities.new holds.new (counts other_multiplicities.new other_holds.new) }
 {
-    if answers.len() < READ_ANSWERS {
-        return SHAPE;
-    }
     let mut list = LentListMut {
         sizes: Sizes { capacity, used },
         keys,
@@ -297,14 +231,10 @@ pub fn read(
         multiplicities: other_multiplicities,
         holds: other_holds,
     };
-    c_answers::stated(answers, read_words(bytes, &mut list, &mut other))
-}
-
-// The call, with its answers as words.
-fn write_words(list: &LentList, out: &mut [u8]) -> Result<[u64; WRITE_ANSWERS], Refusal>
-    ensures { Leaves (write_all (held_in list.now) out.old) (stated_answer result) out.new }
-{
-    Ok([list_stored::write_list(list, out)? as u64])
+    c_answers::answered(
+        answers,
+        &mut || Ok([list_shared::read_shared(bytes, &mut list, &mut other)? as u64]),
+    )
 }
 
 // Answers: the number of bytes written.
@@ -321,14 +251,14 @@ pub fn write(
     ensures answers { WriteAnswers (lent_list capacity used keys.now multiplicities.now holds.now) out.old answers.old result answers.new }
     ensures bytes { WriteLeaves (lent_list capacity used keys.now multiplicities.now holds.now) out.old answers.old out.new }
 {
-    if answers.len() < WRITE_ANSWERS {
-        return SHAPE;
-    }
     let list = LentList {
         sizes: Sizes { capacity, used },
         keys,
         multiplicities,
         holds,
     };
-    c_answers::stated(answers, write_words(&list, out))
+    c_answers::answered(
+        answers,
+        &mut || Ok([list_stored::write_list(&list, out)? as u64]),
+    )
 }

@@ -3,39 +3,19 @@
 // arrays of a list as one thing.
 #![tactic(auto)]
 
-ghost use Rattle.std.specs.Prelude.{◌≡◌, ◌∷◌};
-ghost use Rattle.words.specs.Outcomes.{Leaves};
-ghost use Rattle.list.specs.Lent.{held_in};
-ghost use Rattle.fill.specs.Filling.{fill_all};
+ghost use Rattle.std.specs.Prelude.{◌≡◌};
 ghost use Rattle.fill.specs.Padding.{pad_all};
-ghost use Rattle.fill.specs.Extending.{extend_all};
-ghost use Rattle.check_search.specs.Finds.{nonzero_answer};
-ghost use Rattle.c_answers.specs.Exports.{lent_list, stated_answer};
+ghost use Rattle.c_answers.specs.Exports.{lent_list};
 ghost use Rattle.c_tables.specs.TableAnswers.{FillAnswers, FillLeaves, ExtendAnswers, ExtendLeaves};
 ghost use Rattle.c_tables.specs.TableAnswers.{CheckAnswers, SaysZeroIff, SaysZeroSound, SaysZeroSums};
 ghost use Rattle.c_tables.specs.TableAnswers.{ClientAnswers};
 
 use c_answers::SHAPE;
-use check_search::Nonzero;
 use list::{LentList, Sizes};
-use words::Refusal;
 use xfield::XFieldElement;
 
-// How many words of `answers` each call states.
-const FILL_ANSWERS: usize = 1;
-
-const EXTEND_ANSWERS: usize = XFieldElement::WIDTH;
-
+// How many words of `answers` the check states.
 const CHECK_ANSWERS: usize = 4 + XFieldElement::WIDTH;
-
-const CLIENT_ANSWERS: usize = XFieldElement::WIDTH;
-
-// The call, with its answers as words.
-fn fill_words(list: &LentList, table: &mut [u64]) -> Result<[u64; FILL_ANSWERS], Refusal>
-    ensures { Leaves (fill_all (held_in list.now) table.old) (stated_answer result) table.new }
-{
-    Ok([fill::fill(list, table)?])
-}
 
 // Answers: the height.
 #[tactic(auto, unfolding(c_answers::specs::Exports::lent_due))]
@@ -51,16 +31,13 @@ pub fn fill(
     ensures answers { FillAnswers (lent_list capacity used keys.now multiplicities.now holds.now) table.old answers.old result answers.new }
     ensures table { FillLeaves (lent_list capacity used keys.now multiplicities.now holds.now) table.old answers.old table.new }
 {
-    if answers.len() < FILL_ANSWERS {
-        return SHAPE;
-    }
     let list = LentList {
         sizes: Sizes { capacity, used },
         keys,
         multiplicities,
         holds,
     };
-    c_answers::stated(answers, fill_words(&list, table))
+    c_answers::answered(answers, &mut || Ok([fill::fill(&list, table)?]))
 }
 
 // It has no answers besides the number.
@@ -77,23 +54,14 @@ pub fn extend(table: &[u64], aux: &mut [u64], challenges: &[u64], answers: &mut 
     ensures answers { ExtendAnswers table.now aux.old challenges.now answers.old result answers.new }
     ensures aux { ExtendLeaves table.now aux.old challenges.now answers.old aux.new }
 {
-    if answers.len() < EXTEND_ANSWERS {
-        return SHAPE;
-    }
-    let sum = extend::extend(table, aux, challenges);
-    c_answers::stated(answers, sum.map(XFieldElement::words))
-}
-
-// The words of a constraint that is not zero.
-fn nonzero_words(found: Nonzero) -> [u64; CHECK_ANSWERS]
-    ensures { result ≡ 1 ∷ (nonzero_answer found).values }
-{
-    let [a, b, c] = found.value.words();
-    let group = u64::from(found.group);
-    [1, group, found.row as u64, found.index as u64, a, b, c]
+    c_answers::answered(
+        answers,
+        &mut || Ok(extend::extend(table, aux, challenges)?.words()),
+    )
 }
 
 // Answers: 0 where every constraint is zero, and nothing more; else 1, group, row, index and the three words of the value.
+// Not handed to `answered`, since a call states words of one number, and this one word or seven.
 pub fn check(table: &[u64], aux: &[u64], challenges: &[u64], answers: &mut [u64]) -> u64
     ensures answers { CheckAnswers table.now aux.now challenges.now answers.old result answers.new }
     ensures zero_iff { SaysZeroIff table.now aux.now challenges.now answers.old result answers.new }
@@ -105,7 +73,7 @@ pub fn check(table: &[u64], aux: &[u64], challenges: &[u64], answers: &mut [u64]
     }
     match check_table::check(table, aux, challenges) {
         Ok(None) => c_answers::stated(answers, Ok([0])),
-        Ok(Some(found)) => c_answers::stated(answers, Ok(nonzero_words(found))),
+        Ok(Some(found)) => c_answers::stated(answers, Ok(found.words())),
         Err(reason) => u64::from(reason),
     }
 }
@@ -114,9 +82,8 @@ pub fn check(table: &[u64], aux: &[u64], challenges: &[u64], answers: &mut [u64]
 pub fn client_sum(requests: &[u64], challenges: &[u64], answers: &mut [u64]) -> u64
     ensures { ClientAnswers requests.now challenges.now answers.old result answers.new }
 {
-    if answers.len() < CLIENT_ANSWERS {
-        return SHAPE;
-    }
-    let terminal = client_sum::compute_terminal(requests, challenges);
-    c_answers::stated(answers, terminal.map(XFieldElement::words))
+    c_answers::answered(
+        answers,
+        &mut || Ok(client_sum::compute_terminal(requests, challenges)?.words()),
+    )
 }

@@ -38,6 +38,7 @@
 ghost use Rattle.std.specs.Prelude.{◌≡◌, map};
 ghost use Rattle.xfield.specs.XFieldElements.{ext_of};
 ghost use Rattle.air.specs.Constraints.{transition_constraints};
+ghost use Rattle.table.specs.Challenges.{row_denominator};
 ghost use Rattle.table.specs.Layouts.{row_of, sum_of, challenges_in};
 ghost use Rattle.check_pairs.specs.Parts.{LeastBitsOf, GeneralTransitionOf, BitTransitionOf, DecidedLtTransitionOf};
 ghost use Rattle.check_pairs.specs.Parts.{UndecidedLtTransitionOf, AndLog2FloorTransitionOf, PowPopCountTransitionOf};
@@ -285,27 +286,25 @@ struct RunningSumTransition {
 }
 
 fn running_sum_transition(
-    copy_flag_next: BFieldElement,
-    multiplicity_next: BFieldElement,
+    challenges: Challenges,
+    lower: MainRow,
     sum: XFieldElement,
     sum_next: XFieldElement,
-    denominator: XFieldElement,
 ) -> RunningSumTransition
-    ensures { RunningSumTransitionOf copy_flag_next.0 multiplicity_next.0 (ext_of sum) (ext_of sum_next) (ext_of denominator) result }
+    ensures { RunningSumTransitionOf lower.copy_flag.0 lower.lookup_multiplicity.0 (ext_of sum) (ext_of sum_next) (row_denominator (challenges_in challenges) (row_of lower)) result }
 {
     let step = sum_next - sum;
-    let stays = step * (copy_flag_next - BFieldElement::ONE);
-    let accumulates = check_rows::accumulated(copy_flag_next, step, denominator, multiplicity_next);
+    let stays = step * (lower.copy_flag - BFieldElement::ONE);
+    let accumulates = check_rows::accumulated(challenges, lower, step);
     RunningSumTransition { stays, accumulates }
 }
 
 // The values in their places.
 fn transition_values(
     base: BaseTransition,
-    stays: XFieldElement,
-    accumulates: XFieldElement,
+    running_sum: RunningSumTransition,
 ) -> [XFieldElement; TRANSITION_COUNT]
-    ensures { map ext_of result ≡ transition_values base (ext_of stays) (ext_of accumulates) }
+    ensures { map ext_of result ≡ transition_values base (ext_of running_sum.stays) (ext_of running_sum.accumulates) }
 {
     [
         check_rows::base_value(base.general.lhs_is_0_or_ci_is_pow),
@@ -328,8 +327,8 @@ fn transition_values(
         check_rows::base_value(base.pow_pop_count.pow_squares),
         check_rows::base_value(base.pow_pop_count.pow_squares_and_mults),
         check_rows::base_value(base.pow_pop_count.pop_count_increases),
-        stays,
-        accumulates,
+        running_sum.stays,
+        running_sum.accumulates,
     ]
 }
 
@@ -344,19 +343,6 @@ pub fn transition_constraints(
 {
     let sum = aux.lookup_server_log_derivative;
     let sum_next = aux_next.lookup_server_log_derivative;
-    let denominator = challenges.row_denominator(lower);
-    let running_sum = running_sum_transition(
-        lower.copy_flag,
-        lower.lookup_multiplicity,
-        sum,
-        sum_next,
-        denominator,
-    );
-    let stays = running_sum.stays;
-    let accumulates = running_sum.accumulates;
-    transition_values(
-        RowPair { upper, lower }.base_transition(),
-        stays,
-        accumulates,
-    )
+    let running_sum = running_sum_transition(challenges, lower, sum, sum_next);
+    transition_values(RowPair { upper, lower }.base_transition(), running_sum)
 }

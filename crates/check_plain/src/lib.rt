@@ -87,6 +87,7 @@ fn is_end(row: MainRow) -> bool
 }
 
 // A row and the row below it.
+// `check_pairs` has its own: methods stand in the crate of their struct, so of one in a crate below both each method would be a free function.
 #[derive(Clone, Copy)]
 struct RowPair {
     upper: MainRow,
@@ -196,14 +197,7 @@ fn accumulates(
 ) -> bool
     ensures { result ≡ true → if_copy_flag_next_is_1_then_running_sum_log_derivative_accumulates_next_row (challenges_in challenges) (row_of lower) (ext_of sum) (ext_of sum_next) ≡ zero_x }
 {
-    let denominator = challenges.row_denominator(lower);
-    let value = check_rows::accumulated(
-        lower.copy_flag,
-        sum_next - sum,
-        denominator,
-        lower.lookup_multiplicity,
-    );
-    value.is_zero()
+    check_rows::accumulated(challenges, lower, sum_next - sum).is_zero()
 }
 
 // Yes: every transition constraint of the two rows is zero.

@@ -2,9 +2,8 @@
 -- the evaluators' contracts cite the definitions, and their proofs show that with the words of a row these are the
 -- polynomials there.
 use Rattle.std.specs.Prelude.{ℕ, ◌≡◌}
-use Rattle.xfield.specs.Extension.{Ext, zero_x, add_x, sub_x, mul_x, scale_x}
 use Rattle.table.specs.Columns.{Row}
-use Rattle.air.specs.Constraints.{◌⊕◌, ◌⊖◌, ◌⊗◌, one_minus_product_of, base_value}
+use Rattle.air.specs.Constraints.{◌⊕◌, ◌⊖◌, ◌⊗◌, one_minus_product_of}
 use Rattle.air.specs.Constraints.{copy_flag_is_bit}
 use Rattle.air.specs.Constraints.{copy_flag_is_0_or_bits_is_0}
 use Rattle.air.specs.Constraints.{bits_minus_33_inv_is_inverse_of_bits_minus_33}
@@ -14,12 +13,6 @@ use Rattle.check_rows.specs.declared.FlagConsistency.{FlagConsistency}
 use Rattle.check_rows.specs.declared.InverseConsistency.{InverseConsistency}
 use Rattle.check_rows.specs.declared.ResultConsistency.{ResultConsistency}
 
--- ---- initial
-abbrev pub starts_words : ℕ → Ext → Ext → ℕ → Ext
-starts_words copy_flag sum denominator multiplicity =
-    add_x (scale_x (copy_flag ⊖ 1) (sub_x sum zero_x)) (scale_x copy_flag (sub_x (mul_x sum denominator) (base_value multiplicity)))
-
--- ---- consistency
 pub record FlagConsistencyOf (row : Row) (r : FlagConsistency) : Type 0 where
   pub copy_flag_minus_1 : r.copy_flag_minus_1.0 ≡ row.copy_flag ⊖ 1
   pub copy_flag_is_bit : r.copy_flag_is_bit.0 ≡ copy_flag_is_bit row

@@ -31,10 +31,12 @@
 ghost use Rattle.std.specs.Prelude.{◌≡◌, map};
 ghost use Rattle.xfield.specs.Extension.{sub_x, mul_x, scale_x};
 ghost use Rattle.xfield.specs.XFieldElements.{ext_of};
-ghost use Rattle.air.specs.Constraints.{base_value, initial_constraints, consistency_constraints, terminal_constraints};
+ghost use Rattle.air.specs.Constraints.{base_value, running_sum_log_derivative_starts_correctly};
+ghost use Rattle.air.specs.Constraints.{initial_constraints, consistency_constraints, terminal_constraints};
+ghost use Rattle.table.specs.Challenges.{row_denominator};
 ghost use Rattle.table.specs.Layouts.{row_of, sum_of, challenges_in};
 ghost use Rattle.check_rows.specs.Deselection.{DeselectorsOf, TimesOf};
-ghost use Rattle.check_rows.specs.Parts.{starts_words, FlagConsistencyOf, InverseConsistencyOf, ResultConsistencyOf};
+ghost use Rattle.check_rows.specs.Parts.{FlagConsistencyOf, InverseConsistencyOf, ResultConsistencyOf};
 
 use field::BFieldElement;
 use isa::Opcode;
@@ -108,33 +110,26 @@ pub fn base_value(v: BFieldElement) -> XFieldElement
     XFieldElement(v, zero, zero)
 }
 
-// CopyFlag times what a step of the running sum, times the denominator, is above the multiplicity.
-// CopyFlag, denominator and multiplicity stay three parameters: with one struct for them `check` takes 1.6 percent more instructions.
-pub fn accumulated(
-    copy_flag: BFieldElement,
-    step: XFieldElement,
-    denominator: XFieldElement,
-    multiplicity: BFieldElement,
-) -> XFieldElement
-    ensures { ext_of result ≡ scale_x copy_flag.0 (sub_x (mul_x (ext_of step) (ext_of denominator)) (base_value multiplicity.0)) }
+// CopyFlag of a row times what a step of the running sum, times the row's denominator, is above its multiplicity.
+#[tactic(auto, unfolding(table::specs::Layouts::row_of))]
+pub fn accumulated(challenges: Challenges, row: MainRow, step: XFieldElement) -> XFieldElement
+    ensures { ext_of result ≡ scale_x row.copy_flag.0 (sub_x (mul_x (ext_of step) (row_denominator (challenges_in challenges) (row_of row))) (base_value row.lookup_multiplicity.0)) }
 {
-    (step * denominator - base_value(multiplicity)) * copy_flag
+    let denominator = challenges.row_denominator(row);
+    (step * denominator - base_value(row.lookup_multiplicity)) * row.copy_flag
 }
 
 // ---- initial
 // The running sum starts at 0 in a row with CopyFlag 0, and at multiplicity / denominator in one with CopyFlag 1.
-fn starts(
-    copy_flag: BFieldElement,
-    sum: XFieldElement,
-    denominator: XFieldElement,
-    multiplicity: BFieldElement,
-) -> XFieldElement
-    ensures { ext_of result ≡ starts_words copy_flag.0 (ext_of sum) (ext_of denominator) multiplicity.0 }
+#[tactic(auto, unfolding(table::specs::Layouts::row_of, air::specs::Constraints::running_sum_log_derivative_starts_correctly))]
+fn starts(challenges: Challenges, row: MainRow, sum: XFieldElement) -> XFieldElement
+    ensures { ext_of result ≡ running_sum_log_derivative_starts_correctly (challenges_in challenges) (row_of row) (ext_of sum) }
 {
-    (sum - XFieldElement::ZERO) * (copy_flag - BFieldElement::ONE)
-        + accumulated(copy_flag, sum, denominator, multiplicity)
+    (sum - XFieldElement::ZERO) * (row.copy_flag - BFieldElement::ONE)
+        + accumulated(challenges, row, sum)
 }
 
+#[tactic(auto, unfolding(air::specs::Constraints::initial_constraints))]
 pub fn initial_constraints(
     challenges: Challenges,
     row: MainRow,
@@ -142,9 +137,7 @@ pub fn initial_constraints(
 ) -> [XFieldElement; INITIAL_COUNT]
     ensures { map ext_of result ≡ initial_constraints (challenges_in challenges) (row_of row) (sum_of aux) }
 {
-    let sum = aux.lookup_server_log_derivative;
-    let denominator = challenges.row_denominator(row);
-    [starts(row.copy_flag, sum, denominator, row.lookup_multiplicity)]
+    [starts(challenges, row, aux.lookup_server_log_derivative)]
 }
 
 // ---- consistency

@@ -1,6 +1,7 @@
 -- The steps of a search over the values of a row, as the loops take them: the values are those that an evaluator answered, and a test
 -- was made of one of them. Assumes nothing.
-use Prim.Native.Nat.{ℕ, ◌+◌, ◌-◌, ◌≤◌, ◌<◌}
+use Prim.Native.Nat.{ℕ, zero, suc, ◌+◌, ◌-◌, ◌≤◌, ◌<◌}
+use native.Mathlib.Numerals.{add-one}
 use mathlib.Core.Path.{◌≡◌, refl, sym, ap, ◌∙◌}
 use mathlib.Core.Bool.{Bool, true, false, not}
 use mathlib.Core.List.{List, map}
@@ -69,6 +70,15 @@ module _ (group row : ℕ) (values : List XFieldElement) (i : ℕ) (next : Answe
         → first_in group row i (drop i vs) next ≡ nonzero group row i (ext_of (get_or values i zero_element))
     found {t} f z =
         value_nonzero group row vs i next (omega (arith, sized)) (ap is_zero_x value_at_lem ∙ sym f ∙ not-true t z) ∙ ap (nonzero group row i) value_at_lem
+
+-- those before the k-th have been passed
+module _ (group row : ℕ) (values : List XFieldElement) (next : Answer) where
+  pub passed_before : (k : ℕ) → k ≤ length values → ((i : ℕ) → i < k → is_zero_x (ext_of (get_or values i zero_element)) ≡ true)
+      → first_in group row 0 (map ext_of values) next ≡ first_in group row k (drop k (map ext_of values)) next
+  passed_before zero h z = refl
+  passed_before (suc k) h z =
+      passed_before k (omega arith) (λ i l. z i (omega arith))
+      ∙ rw (add-one k) at (passed group row values k next (omega arith) (sym (z k (omega arith))) refl)
 
 -- ---- row by row
 pub some_found : (o : Option Nonzero) → is_some o ≡ true → (a b : Answer) → followed_by o a ≡ followed_by o b

@@ -2,7 +2,7 @@
 // any answer `next` that another search would give.
 #![tactic(auto)]
 
-ghost use Rattle.std.specs.Prelude.{◌≡◌, ◌*◌, ◌-◌, ◌≤◌, ◌<◌, length, map};
+ghost use Rattle.std.specs.Prelude.{◌≡◌, ◌∷◌, ◌*◌, ◌-◌, ◌≤◌, ◌<◌, length, map};
 ghost use Rattle.words.specs.Answers.{Answer};
 ghost use Rattle.xfield.specs.XFieldElements.{ext_of};
 ghost use Rattle.table.specs.Columns.{aux_width, row_at, row_count};
@@ -10,7 +10,7 @@ ghost use Rattle.table.specs.Challenges.{challenge_words};
 ghost use Rattle.table.specs.Layouts.{sum_of, challenges_in};
 ghost use Rattle.air.specs.Constraints.{initial_constraints};
 ghost use Rattle.air.specs.Check.{consistency_at, transition_at, terminal_at, first_in, first_in_rows};
-ghost use Rattle.check_search.specs.Finds.{group_number, followed_by};
+ghost use Rattle.check_search.specs.Finds.{group_number, nonzero_answer, followed_by};
 
 use table::{AuxRow, Challenges, MainRow};
 use xfield::XFieldElement;
@@ -44,24 +44,32 @@ pub struct Nonzero {
     pub value: XFieldElement,
 }
 
+impl Nonzero {
+    // As words: 1, which says that there is one, and then group, row, index and the three words of the value.
+    pub fn words(self) -> [u64; 4 + XFieldElement::WIDTH]
+        ensures { result ≡ 1 ∷ (nonzero_answer self).values }
+    {
+        let [a, b, c] = self.value.words();
+        let group = u64::from(self.group);
+        [1, group, self.row as u64, self.index as u64, a, b, c]
+    }
+}
+
 // The first of a group's values at a row that is not zero.
 fn first_nonzero(group: Group, row: usize, values: &[XFieldElement]) -> Option<Nonzero>
     ensures { (next : Answer) → followed_by result next ≡ first_in (group_number group) row 0 (map ext_of values.now) next }
 {
-    for (index, value) in values.iter().enumerate() {
-        if !value.is_zero() {
-            return Some(Nonzero {
-                group,
-                row,
-                index,
-                value: *value,
-            });
-        }
-    }
-    None
+    let index = values.iter().position(|value| !value.is_zero())?;
+    Some(Nonzero {
+        group,
+        row,
+        index,
+        value: values[index],
+    })
 }
 
 // Consistency, row by row. A row that gets a yes from the test is passed; any other is evaluated. It asks nothing of the table.
+// A loop: with `find_map`, which was tried, the goal stayed open, since its clause `ran` does not tell that the answer that stopped it is `Some`.
 pub fn consistency(table: &[u64]) -> Option<Nonzero>
     ensures { (next : Answer) → followed_by result next ≡ first_in_rows (consistency_at table.now) 1 0 (row_count table.now) next }
 {
@@ -106,7 +114,7 @@ impl Rows<'_> {
     }
 }
 
-// Such a table with the sum of each row, and the challenges.
+// Such a table with the sum of each row, and the challenges. Apart from `Rows`, so that no search asks for arrays that it does not read.
 #[derive(Clone, Copy)]
 pub struct JudgedTable<'a> {
     pub rows: Rows<'a>,
@@ -117,7 +125,7 @@ pub struct JudgedTable<'a> {
 }
 
 impl JudgedTable<'_> {
-    // Transition, pair by pair. A pair that gets a yes from the test is passed; any other is evaluated.
+    // Transition, pair by pair. A pair that gets a yes from the test is passed; any other is evaluated. A loop, as for `consistency`.
     pub fn transition(&self) -> Option<Nonzero>
         ensures { (next : Answer) → followed_by result next ≡ first_in_rows (transition_at self.now.rows.table.now self.now.aux.now self.now.challenges.now) 2 0 (row_count self.now.rows.table.now - 1) next }
     {

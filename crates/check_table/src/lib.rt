@@ -44,7 +44,7 @@ fn judge<'a>(
 
 // ---- the search, group by group
 // The first constraint that is not zero: initial, consistency, transition, terminal.
-// No chain of `or_else`: it tells nothing of a closure that captures a struct with a reference in it.
+// A chain of `or_else` was tried, and its proof did not close: nothing is told of a closure that captures a struct with a reference in it.
 fn search(judged: &JudgedTable) -> Option<Nonzero>
     ensures { followed_by result zero_answer ≡ first_nonzero judged.now.rows.table.now judged.now.aux.now judged.now.challenges.now }
 {

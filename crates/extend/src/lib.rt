@@ -9,8 +9,8 @@ ghost use Rattle.table.specs.Challenges.{challenge_words, challenges_of};
 ghost use Rattle.table.specs.Layouts.{challenges_in};
 ghost use Rattle.sums.specs.RunningSum.{denominators_ok};
 ghost use Rattle.sums.specs.LookupSum.{summand_of, summand_at};
-ghost use Rattle.fill.specs.Extending.{extend_reason, extend_all};
-ghost use Rattle.extend.specs.Extensions.{summands_in, extended_answer};
+ghost use Rattle.fill.specs.Extending.{extend_all};
+ghost use Rattle.extend.specs.Extensions.{summands_in, Judged, extended_answer};
 
 use sums::{Share, Summands};
 use table::{Challenges, MainRow};
@@ -68,7 +68,7 @@ fn are_rows_fine(rows: &Rows) -> bool
     if rows.table.len() % MainRow::WIDTH != 0 {
         return false;
     }
-    // By number, as `Summands` gives a row's share.
+    // By number, as `Summands` gives a row's share: with the rows as chunks, each would be cut and read by number both.
     for row in 0..rows.count() {
         if !table::are_ten_reduced(rows.table, MainRow::WIDTH * row) {
             return false;
@@ -81,17 +81,17 @@ fn are_rows_fine(rows: &Rows) -> bool
 }
 
 // Reasons 1, 8 and 9, in this order; no word is read where the shapes are wrong, and old aux words never. Where one pass finds nothing against
-// the rows, there is none; else each reason is asked for.
+// the rows, there is none; else each reason is asked for. The rows come back, where there is no reason.
 #[tactic(auto, using(crate::proofs::Reasons::judge_steps))]
-fn judge(table: &[u64], aux: &[u64], challenges: &[u64]) -> Result<(), Refusal>
-    ensures { result ≡ extend_reason table.now aux.now challenges.now }
+fn judge<'a>(table: &'a [u64], aux: &[u64], challenges: &[u64]) -> Result<Rows<'a>, Refusal>
+    ensures { Judged table.now aux.now challenges.now result }
 {
     if !table::have_shapes(table, aux, challenges) {
         return Err(Refusal::Shape);
     }
     let rows = Rows::new(table, challenges);
     if table::all_reduced(challenges) && are_rows_fine(&rows) {
-        return Ok(());
+        return Ok(rows);
     }
     if !table::are_reduced(table, challenges) {
         return Err(Refusal::Unreduced);
@@ -99,7 +99,7 @@ fn judge(table: &[u64], aux: &[u64], challenges: &[u64]) -> Result<(), Refusal>
     if !sums::denominators_ok(&rows) {
         return Err(Refusal::Flat);
     }
-    Ok(())
+    Ok(rows)
 }
 
 // Each row's aux words become the sum so far, and the answer is the last sum, zero for no rows. It refuses wrong shapes, a word p or more in
@@ -107,6 +107,6 @@ fn judge(table: &[u64], aux: &[u64], challenges: &[u64]) -> Result<(), Refusal>
 pub fn extend(table: &[u64], aux: &mut [u64], challenges: &[u64]) -> Result<XFieldElement, Refusal>
     ensures { Leaves (extend_all table.now aux.old challenges.now) (extended_answer result) aux.new }
 {
-    judge(table, aux, challenges)?;
-    Ok(sums::write_sums(&Rows::new(table, challenges), aux))
+    let rows = judge(table, aux, challenges)?;
+    Ok(sums::write_sums(&rows, aux))
 }

@@ -8,7 +8,7 @@ use Rattle.field.specs.Elements.{p, add_f, mul_f, sub_f, neg_f}
 use Rattle.field.proofs.Ring.{Ring}
 
 -- ---- every answer is below p
-p_pos : 0 < p
+pub p_pos : 0 < p
 p_pos = lit< tt
 
 pub add_f_lt : (a b : ℕ) → add_f a b < p

@@ -322,8 +322,8 @@ impl BFieldElement {
         } else {
             low - hh
         };
-        let s = t0.wrapping_add(t1);
-        if s < t1 {
+        let (s, passed) = t0.overflowing_add(t1);
+        if passed {
             BFieldElement(s + Self::EPSILON)
         } else {
             BFieldElement::new(s)
@@ -363,14 +363,14 @@ impl BFieldElement {
         let mut t1: u64 = 1;
         while 256 <= r1 {
             let first = r0 / r1;
-            r0 = r0 % r1;
-            t0 = t0 + first * t1;
+            r0 %= r1;
+            t0 += first * t1;
             if r0 < 256 {
                 return -(BFieldElement(t0) * small_inverse(r0));
             }
             let second = r1 / r0;
-            r1 = r1 % r0;
-            t1 = t1 + second * t0;
+            r1 %= r0;
+            t1 += second * t0;
         }
         BFieldElement(t1) * small_inverse(r1)
     }
@@ -406,8 +406,8 @@ impl Add for BFieldElement {
     fn add(self, other: BFieldElement) -> BFieldElement {
         let a = self.value();
         let b = other.value();
-        let s = a.wrapping_add(b);
-        if s < a {
+        let (s, passed) = a.overflowing_add(b);
+        if passed {
             BFieldElement(s + Self::EPSILON)
         } else {
             BFieldElement::new(s)

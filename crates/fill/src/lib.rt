@@ -2,63 +2,39 @@
 #![tactic(auto)]
 
 ghost use Rattle.std.specs.Prelude.{◌≡◌, ◌*◌, ◌≤◌, length};
-ghost use Rattle.words.specs.Limits.{max_places};
 ghost use Rattle.words.specs.Outcomes.{Leaves, completed_answer};
 ghost use Rattle.words.specs.Refusals.{Fine};
-ghost use Rattle.isa.specs.Entries.{entry_width};
-ghost use Rattle.list.specs.Lists.{u32_list, judge_list};
+ghost use Rattle.list.specs.Lists.{judge_list};
 ghost use Rattle.list.specs.Heights.{list_height};
-ghost use Rattle.list.specs.Holds.{section_list};
-ghost use Rattle.list.specs.Lent.{held_in};
+ghost use Rattle.list.specs.Lent.{counts_in, held_in};
 ghost use Rattle.table.specs.Columns.{main_width};
 ghost use Rattle.table.specs.Layouts.{row_of};
 ghost use Rattle.fill.specs.Filling.{filled, fill_all, filled_answer};
 ghost use Rattle.fill.specs.Padding.{last_filled, padding_row, pad_all};
 
 use field::BFieldElement;
-use isa::{Opcode, U32TableEntry};
-use list::{LentList, Sizes};
+use isa::Opcode;
+use list::{Counted, LentList, UsedPlaces};
 use table::MainRow;
-use words::{MAX_PLACES, Refusal};
+use words::Refusal;
 
 // Fills the sections of a list that is judged fine, one after the other from row 0 on, and answers how many rows they have. Every entry was
 // admitted, so each has a section.
-fn fill_sections(sizes: Sizes, keys: &[u64], multiplicities: &[u64], table: &mut [u64]) -> u64
-    requires multiplicities_value { judge_list (u32_list sizes keys.now multiplicities.now) ≡ Fine }
-    requires multiplicities_in_bounds { main_width * list_height (u32_list sizes keys.now multiplicities.now) ≤ length table.old }
-    ensures value { result ≡ list_height (u32_list sizes keys.now multiplicities.now) }
-    ensures table_after { table.new ≡ filled (u32_list sizes keys.now multiplicities.now) table.old }
+fn fill_sections(places: &UsedPlaces, table: &mut [u64]) -> u64
+    requires fine { judge_list (counts_in places.now.list) ≡ Fine }
+    requires room { main_width * list_height (counts_in places.now.list) ≤ length table.old }
+    ensures value { result ≡ list_height (counts_in places.now.list) }
+    ensures table_after { table.new ≡ filled (counts_in places.now.list) table.old }
 {
+    let list = places.list;
     let mut row: usize = 0;
-    // By place, as `entry_at` reads the words of a key: `zip` would need a second way to read them.
-    for place in 0..sizes.used {
-        let entry = list::entry_at(keys, place);
-        fill_sections::fill_entry(table, row, entry, multiplicities[place]);
+    // By place. With `chunks_exact` of the keys, `zip` and `take` the proof closed too, but took 166 lines in the place of 87: it has to say what both iterators have left.
+    for place in 0..list.sizes.used {
+        let entry = list::entry_at(list.keys, place);
+        fill_sections::fill_entry(table, row, entry, list.multiplicities[place]);
         row += entry.table_height_contribution() as usize;
     }
     row as u64
-}
-
-// Fills the sections of the counted keys of a list, those whose multiplicity is not 0. They are gathered in a copy; the others have no section.
-fn fill_counted(list: &LentList, table: &mut [u64]) -> u64
-    requires used_le_max_places { (list.now.sizes.used ≤ max_places) × (entry_width * list.now.sizes.used ≤ length list.now.keys.now) × (list.now.sizes.used ≤ length list.now.multiplicities.now) }
-    requires multiplicities_value { judge_list (section_list (held_in list.now)) ≡ Fine }
-    requires multiplicities_in_bounds { main_width * list_height (section_list (held_in list.now)) ≤ length table.old }
-    ensures value { result ≡ list_height (section_list (held_in list.now)) }
-    ensures table_after { table.new ≡ filled (section_list (held_in list.now)) table.old }
-{
-    let mut to_keys = [0u64; U32TableEntry::WIDTH * MAX_PLACES];
-    let mut to_multiplicities = [0u64; MAX_PLACES];
-    let copy = list::counted(
-        list.sizes,
-        list.keys,
-        list.multiplicities,
-        &mut to_keys,
-        &mut to_multiplicities,
-    );
-    let n = copy.used;
-    let end = U32TableEntry::WIDTH * n;
-    fill_sections(copy, &to_keys[..end], &to_multiplicities[..n], table)
 }
 
 // Fills the sections of the list's counted keys, in list order, from row 0 on. The answer is the height; later rows keep their words. A key whose
@@ -71,11 +47,12 @@ pub fn fill(list: &LentList, table: &mut [u64]) -> Result<u64, Refusal>
     if !MainRow::has_shape(table) {
         return Err(Refusal::Shape);
     }
-    let height = list.judge_held()?;
+    let mut counted = Counted::none();
+    let height = list.judge_counted(&mut counted)?;
     if ((table.len() / MainRow::WIDTH) as u64) < height {
         return Err(Refusal::Short);
     }
-    Ok(fill_counted(list, table))
+    Ok(fill_sections(&counted.lent(), table))
 }
 
 // What counts as the last filled row where none is filled: zeros, with CI split.

@@ -9,6 +9,7 @@ use field::BFieldElement;
 use isa::Opcode;
 
 // Whether a row with these words ends its section.
+// No method: `check_plain` asks it of a row of a table, and would make a `ResultRow` for it, two of whose words are not looked at.
 #[tactic(auto, unfolding(crate::specs::Results::is_end))]
 pub fn is_end(ci: u64, lhs: u64, rhs: u64) -> bool
     ensures { result ≡ is_end ci lhs rhs }
@@ -16,91 +17,105 @@ pub fn is_end(ci: u64, lhs: u64, rhs: u64) -> bool
     rhs == 0 && (lhs == 0 || ci == Opcode::Pow as u64)
 }
 
-// The Result that ends a section; none where CI is none of the six.
-#[tactic(auto, using(crate::proofs::Results::ending_unknown), unfolding(crate::specs::Results::ending))]
-pub fn ending(ci: u64, bits: u64) -> Option<u64>
-    ensures { result ≡ ending_of ci bits }
-{
-    match Opcode::try_from(ci).ok()? {
-        Opcode::Split => Some(0),
-        Opcode::Lt if bits == 0 => Some(0),
-        Opcode::Lt => Some(2),
-        Opcode::And => Some(0),
-        Opcode::Log2Floor => Some(BFieldElement::P - 1),
-        Opcode::Pow => Some(1),
-        Opcode::PopCount => Some(0),
+// A row whose Result is sought: the words that the Result is made from.
+#[derive(Clone, Copy)]
+pub struct ResultRow {
+    pub copy_flag: u64,
+    pub bits: u64,
+    pub ci: u64,
+    pub lhs: u64,
+    pub rhs: u64,
+}
+
+impl ResultRow {
+    // The Result, where the row ends its section; none where CI is none of the six.
+    #[tactic(auto, using(crate::proofs::Results::ending_unknown), unfolding(crate::specs::Results::ending))]
+    pub fn ending(self) -> Option<u64>
+        ensures { result ≡ ending_of self.ci self.bits }
+    {
+        match Opcode::try_from(self.ci).ok()? {
+            Opcode::Split => Some(0),
+            Opcode::Lt if self.bits == 0 => Some(0),
+            Opcode::Lt => Some(2),
+            Opcode::And => Some(0),
+            Opcode::Log2Floor => Some(BFieldElement::P - 1),
+            Opcode::Pow => Some(1),
+            Opcode::PopCount => Some(0),
+        }
     }
-}
 
-#[tactic(auto, unfolding(crate::specs::Results::carry_lt))]
-fn carry_lt(copy_flag: u64, lhs: u64, rhs: u64, below: u64) -> u64
-    ensures { result ≡ carry_lt copy_flag lhs rhs below }
-{
-    if below != 2 {
-        below
-    } else if lhs % 2 < rhs % 2 {
-        1
-    } else if rhs % 2 < lhs % 2 {
-        0
-    } else if copy_flag == 1 {
-        0
-    } else {
-        2
+    // The Result from that of the row below; none where CI is none of the six.
+    #[tactic(auto, using(crate::proofs::Results::carry_unknown), unfolding(crate::specs::Results::carry))]
+    pub fn carry(self, below: u64) -> Option<u64>
+        ensures { result ≡ carry_of self.ci self.copy_flag self.bits self.lhs self.rhs below }
+    {
+        match Opcode::try_from(self.ci).ok()? {
+            Opcode::Split => Some(below),
+            Opcode::Lt => Some(self.carry_lt(below)),
+            Opcode::And => Some(self.carry_and(below)),
+            Opcode::Log2Floor => Some(self.carry_log_2_floor(below)),
+            Opcode::Pow => Some(self.carry_pow(below)),
+            Opcode::PopCount => Some(self.carry_pop_count(below)),
+        }
     }
-}
 
-#[tactic(auto, unfolding(crate::specs::Results::carry_log2_floor))]
-fn carry_log_2_floor(bits: u64, lhs: u64, below: u64) -> u64
-    ensures { result ≡ carry_log2_floor bits lhs below }
-{
-    if lhs == 0 {
-        BFieldElement::P - 1
-    } else if lhs / 2 == 0 {
-        bits
-    } else {
-        below
+    #[tactic(auto, unfolding(crate::specs::Results::carry_lt))]
+    fn carry_lt(self, below: u64) -> u64
+        ensures { result ≡ carry_lt self.copy_flag self.lhs self.rhs below }
+    {
+        let lhs = self.lhs % 2;
+        let rhs = self.rhs % 2;
+        if below != 2 {
+            below
+        } else if lhs < rhs {
+            1
+        } else if rhs < lhs {
+            0
+        } else if self.copy_flag == 1 {
+            0
+        } else {
+            2
+        }
     }
-}
 
-#[tactic(auto, unfolding(crate::specs::Results::carry_pow))]
-fn carry_pow(lhs: u64, rhs: u64, below: u64) -> u64
-    ensures { result ≡ carry_pow lhs rhs below }
-{
-    let b = BFieldElement(below);
-    let square = b * b;
-    if rhs % 2 == 0 {
-        square.0
-    } else {
-        (square * BFieldElement(lhs)).0
+    #[tactic(auto, unfolding(crate::specs::Results::carry_log2_floor))]
+    fn carry_log_2_floor(self, below: u64) -> u64
+        ensures { result ≡ carry_log2_floor self.bits self.lhs below }
+    {
+        if self.lhs == 0 {
+            BFieldElement::P - 1
+        } else if self.lhs / 2 == 0 {
+            self.bits
+        } else {
+            below
+        }
     }
-}
 
-#[tactic(auto, unfolding(crate::specs::Results::carry_and))]
-fn carry_and(lhs: u64, rhs: u64, below: u64) -> u64
-    ensures { result ≡ carry_and lhs rhs below }
-{
-    let bits = BFieldElement(lhs % 2) * BFieldElement(rhs % 2);
-    (BFieldElement(2) * BFieldElement(below) + bits).0
-}
+    #[tactic(auto, unfolding(crate::specs::Results::carry_pow))]
+    fn carry_pow(self, below: u64) -> u64
+        ensures { result ≡ carry_pow self.lhs self.rhs below }
+    {
+        let b = BFieldElement(below);
+        let square = b * b;
+        if self.rhs % 2 == 0 {
+            square.0
+        } else {
+            (square * BFieldElement(self.lhs)).0
+        }
+    }
 
-#[tactic(auto, unfolding(crate::specs::Results::carry_pop_count))]
-fn carry_pop_count(lhs: u64, below: u64) -> u64
-    ensures { result ≡ carry_pop_count lhs below }
-{
-    (BFieldElement(below) + BFieldElement(lhs % 2)).0
-}
+    #[tactic(auto, unfolding(crate::specs::Results::carry_and))]
+    fn carry_and(self, below: u64) -> u64
+        ensures { result ≡ carry_and self.lhs self.rhs below }
+    {
+        let bits = BFieldElement(self.lhs % 2) * BFieldElement(self.rhs % 2);
+        (BFieldElement(2) * BFieldElement(below) + bits).0
+    }
 
-// A row's Result from that of the row below; none where CI is none of the six.
-#[tactic(auto, using(crate::proofs::Results::carry_unknown), unfolding(crate::specs::Results::carry))]
-pub fn carry(ci: u64, copy_flag: u64, bits: u64, lhs: u64, rhs: u64, below: u64) -> Option<u64>
-    ensures { result ≡ carry_of ci copy_flag bits lhs rhs below }
-{
-    match Opcode::try_from(ci).ok()? {
-        Opcode::Split => Some(below),
-        Opcode::Lt => Some(carry_lt(copy_flag, lhs, rhs, below)),
-        Opcode::And => Some(carry_and(lhs, rhs, below)),
-        Opcode::Log2Floor => Some(carry_log_2_floor(bits, lhs, below)),
-        Opcode::Pow => Some(carry_pow(lhs, rhs, below)),
-        Opcode::PopCount => Some(carry_pop_count(lhs, below)),
+    #[tactic(auto, unfolding(crate::specs::Results::carry_pop_count))]
+    fn carry_pop_count(self, below: u64) -> u64
+        ensures { result ≡ carry_pop_count self.lhs below }
+    {
+        (BFieldElement(below) + BFieldElement(self.lhs % 2)).0
     }
 }

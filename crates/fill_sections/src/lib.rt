@@ -12,6 +12,7 @@ ghost use Rattle.fill_sections.specs.PendingRows.{pending_of, rows_left, section
 mod operand;
 
 use field::BFieldElement;
+use fill_results::ResultRow;
 use isa::{Opcode, U32TableEntry};
 use operand::Operand;
 use table::MainRow;
@@ -124,15 +125,20 @@ fn fill_section(table: &mut [u64], row: usize, pending: PendingRow) -> Option<u6
     ensures value { result ≡ top_result (section_of pending) }
     ensures table_after { table.new ≡ sets table.old (main_width * row) (section_words (section_of pending)) }
 {
-    let lhs = pending.lhs.value;
-    let rhs = pending.rhs.value;
-    if fill_results::is_end(pending.ci, lhs, rhs) {
-        let res = fill_results::ending(pending.ci, pending.bits)?;
+    let words = ResultRow {
+        copy_flag: pending.copy_flag,
+        bits: pending.bits,
+        ci: pending.ci,
+        lhs: pending.lhs.value,
+        rhs: pending.rhs.value,
+    };
+    if fill_results::is_end(words.ci, words.lhs, words.rhs) {
+        let res = words.ending()?;
         pending.row(res).put(table, row);
         return Some(res);
     }
     let below = fill_section(table, row + 1, pending.next())?;
-    let res = fill_results::carry(pending.ci, pending.copy_flag, pending.bits, lhs, rhs, below)?;
+    let res = words.carry(below)?;
     pending.row(res).put(table, row);
     Some(res)
 }

@@ -5,7 +5,7 @@ ghost use Rattle.std.specs.Prelude.{◌≡◌, ◌+◌, ◌*◌, ◌≤◌, ◌<
 ghost use Rattle.words.specs.declared.Refusal.TheVariants.{Wide, BareLog};
 ghost use Rattle.words.specs.Refusals.{decline_if};
 ghost use Rattle.isa.specs.Opcodes.{op_log2_floor, opcode_number, Decodes};
-ghost use Rattle.isa.specs.Entries.{lhs, rhs, lhs_limit, rhs_limit, entry, entry_in, entry_width, judge_as_it_is, admit_stored, admitted, admission, dominant, height, compare_entries};
+ghost use Rattle.isa.specs.Entries.{lhs, rhs, lhs_limit, rhs_limit, entry, entry_in, entry_words, entry_width, judge_as_it_is, admit_stored, admitted, admission, dominant, height, compare_entries};
 ghost use Rattle.isa.specs.Entries.{admit as admit_of};
 ghost use Rattle.isa.specs.PlainFunctions.{floor_log2, plain_result};
 
@@ -88,8 +88,15 @@ impl U32TableEntry {
         requires { entry_width * place + 2 < length words.now }
         ensures { result ≡ entry_in words.now place }
     {
-        let first = Self::WIDTH * place;
-        Self::new(words[first], words[first + 1], words[first + 2])
+        let [opcode, left, right]: [u64; Self::WIDTH] = words::record_at(words, place);
+        Self::new(opcode, left, right)
+    }
+
+    // The words of an entry, in the order of its fields.
+    pub fn words(self) -> [u64; U32TableEntry::WIDTH]
+        ensures { result ≡ entry_words self }
+    {
+        [self.opcode, self.left_operand, self.right_operand]
     }
 
     // Reason 3: an operand is outside its range, which for the left one is `limit`.
@@ -188,6 +195,7 @@ impl U32TableEntry {
             Ok(Opcode::Log2Floor) => floor_log2(self.left_operand),
             Ok(Opcode::Pow) => BFieldElement(self.left_operand).pow(self.right_operand).0,
             Ok(Opcode::PopCount) => u64::from(self.left_operand.count_ones()),
+            // Two arms: one or-pattern of both was tried, and then a goal has no name but the prover's own, which may change.
             Ok(Opcode::Split) => 0,
             Err(_) => 0,
         }
@@ -206,9 +214,5 @@ pub fn floor_log2(n: u64) -> u64
     ensures exact { result ≡ floor_log2 n }
     ensures bound { result ≤ 63 }
 {
-    if n == 0 {
-        0
-    } else {
-        63 - u64::leading_zeros(n) as u64
-    }
+    if n == 0 { 0 } else { u64::from(n.ilog2()) }
 }

@@ -1,6 +1,6 @@
 -- The list of the counted places, stored place by place at the front of two arrays (Stored): before the first turn of the loop (stored_none), a turn at a place
--- without count (stored_passed) and at one with a count (stored_more), what stands there after the last turn (stored_sizes, stored_keys, stored_counts); and
--- the parts of the arrays that are lent on: they are the list (lent_few, counted_lent, lent_keys, lent_counts). Assumes nothing.
+-- without count (stored_passed) and at one with a count (stored_more); what stands there after the last turn (stored_sizes, stored_keys, stored_counts);
+-- and the fronts of the arrays are the list (counted_front). Assumes nothing.
 use Prim.Native.Nat.{ℕ, ◌+◌, ◌*◌, ◌≤◌}
 use mathlib.Core.Path.{◌≡◌, refl, sym, ap, ◌∙◌}
 use mathlib.Core.Logic.{◌≢◌}
@@ -8,7 +8,7 @@ use mathlib.Core.List.{List, [], ◌∷◌, ◌++◌, map, flat_map, append-nil,
 use native.Mathlib.Numerals.{add-one}
 use native.Mathlib.Omega.{arith}
 use lib.ListN.{length, set, take, length-append, length-map}
-use lib.Seq.{sets, length-sets, length-take-le}
+use lib.Seq.{sets, length-sets}
 use Rattle.std.proofs.lemmas.List.{map_push}
 use Rattle.words.specs.Limits.{max_places}
 use Rattle.words.proofs.Sets.{sets_append, take_sets_front}
@@ -29,6 +29,9 @@ flat_last : (f : ℕ → List ℕ) (ps : List ℕ) (i : ℕ) → flat_map f (ps 
 unfolding flat_map
 flat_last f [] i = append-nil (f i)
 flat_last f (k ∷ ps) i = ap (λ (xs : List ℕ). f k ++ xs) (flat_last f ps i) ∙ sym (append_assoc (f k) (flat_map f ps) (f i))
+
+list_of : {z : Sizes} {ks ms : List ℕ} (m : U32List) → z ≡ m.sizes → ks ≡ m.keys → ms ≡ m.multiplicities → u32_list z ks ms ≡ m
+list_of m a b c = rw (a, b, c) refl
 
 -- Of the first i places n are counted, and they stand at the front of the arrays; ks₀ and ms₀ are the arrays as they were
 pub record Stored (l : U32List) (ks₀ ms₀ ks ms : List ℕ) (n i : ℕ) : Type 0 where
@@ -105,46 +108,15 @@ module _ {l : U32List} {ks₀ ms₀ ks ms : List ℕ} {n i : ℕ} (s : Stored l 
     unfolding counted
     stored_counts = s.counts ∙ ap (λ (j : ℕ). sets ms₀ 0 (counts_to l j)) all
 
-module _ (l : U32List) where
-  keys_length : length (counted l).keys ≡ entry_width * used (counted l)
-  unfolding counted
-  keys_length = words_length (key_at l) (counted_places l)
-
-  counts_length : length (counted l).multiplicities ≡ used (counted l)
-  unfolding counted
-  counts_length = length-map (counted_places l) (multiplicity_at l)
-
--- ---- parts of the arrays, lent on
-
-list_of : {z : Sizes} {ks ms : List ℕ} (m : U32List) → z ≡ m.sizes → ks ≡ m.keys → ms ≡ m.multiplicities → u32_list z ks ms ≡ m
-list_of m a b c = rw (a, b, c) refl
-
-module _ (l : U32List) {z : Sizes} (ez : z ≡ (counted l).sizes) where
-  pub lent_few : z.used ≤ used l
-  lent_few = let n = ap (λ (x : Sizes). x.used) ez in omega (arith, n, counted_few l)
-
-  pub counted_lent : (ks₀ ms₀ : List ℕ) {ks ms : List ℕ} → ks ≡ sets ks₀ 0 (counted l).keys → ms ≡ sets ms₀ 0 (counted l).multiplicities
-      → length ks₀ ≡ entry_width * max_places → length ms₀ ≡ max_places → used l ≤ max_places
-      → u32_list z (take (entry_width * z.used) ks) (take z.used ms) ≡ counted l
-  counted_lent ks₀ ms₀ {ks} {ms} ek em lk lm few =
-      let n : z.used ≡ used (counted l) = ap (λ (x : Sizes). x.used) ez in
-      list_of (counted l) ez
-      (ap (λ (ws : List ℕ). take (entry_width * z.used) ws) ek
-      ∙ take_sets_front (counted l).keys ks₀ (entry_width * z.used) (omega (arith, n, keys_length l)) (omega (arith, n, lk, few, counted_few l)))
-      (ap (λ (ws : List ℕ). take z.used ws) em
-      ∙ take_sets_front (counted l).multiplicities ms₀ z.used (omega (arith, n, counts_length l)) (omega (arith, n, lm, few, counted_few l)))
-
-  -- how long the parts are
-  pub lent_keys : (ks₀ : List ℕ) {ks : List ℕ} → ks ≡ sets ks₀ 0 (counted l).keys → length ks₀ ≡ entry_width * max_places → used l ≤ max_places
-      → entry_width * z.used ≡ length (take (entry_width * z.used) ks)
-  lent_keys ks₀ {ks} ek lk few =
-      let n = lent_few in
-      let k : length ks ≡ length ks₀ = ap (λ (ws : List ℕ). length ws) ek ∙ length-sets ks₀ 0 (counted l).keys in
-      sym (length-take-le (entry_width * z.used) ks (omega (arith, n, k, lk, few)))
-
-  pub lent_counts : (ms₀ : List ℕ) {ms : List ℕ} → ms ≡ sets ms₀ 0 (counted l).multiplicities → length ms₀ ≡ max_places → used l ≤ max_places
-      → z.used ≡ length (take z.used ms)
-  lent_counts ms₀ {ms} em lm few =
-      let n = lent_few in
-      let k : length ms ≡ length ms₀ = ap (λ (ws : List ℕ). length ws) em ∙ length-sets ms₀ 0 (counted l).multiplicities in
-      sym (length-take-le z.used ms (omega (arith, n, k, lm, few)))
+-- the fronts of arrays that had room for all places are the list of the counted places
+pub counted_front : (l : U32List) {z : Sizes} (ks₀ ms₀ : List ℕ) {ks ms : List ℕ} → z ≡ (counted l).sizes → ks ≡ sets ks₀ 0 (counted l).keys → ms ≡ sets ms₀ 0 (counted l).multiplicities
+    → length ks₀ ≡ entry_width * max_places → length ms₀ ≡ max_places → used l ≤ max_places
+    → u32_list (record { capacity = z.used; used = z.used }) (take (entry_width * z.used) ks) (take z.used ms) ≡ counted l
+unfolding counted
+counted_front l {z} ks₀ ms₀ ez ek em lk lm room =
+    let many : z.used ≡ length (counted_places l) = ap (λ (x : Sizes). x.used) ez in
+    list_of (counted l) (rw many refl)
+    (ap (λ (ws : List ℕ). take (entry_width * z.used) ws) ek
+    ∙ take_sets_front (counted l).keys ks₀ (entry_width * z.used) (omega (arith, many, words_length (key_at l) (counted_places l))) (omega (arith, many, lk, room, counted_few l)))
+    (ap (λ (ws : List ℕ). take z.used ws) em
+    ∙ take_sets_front (counted l).multiplicities ms₀ z.used (omega (arith, many, length-map (counted_places l) (multiplicity_at l))) (omega (arith, many, lm, room, counted_few l)))

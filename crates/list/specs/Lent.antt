@@ -1,8 +1,20 @@
 -- A list as the code lends it, as the list that the definitions speak of.
-use Rattle.std.specs.Prelude.{◌≡◌}
+use Rattle.std.specs.Prelude.{◌≡◌, ◌*◌, take}
+use Rattle.isa.specs.Entries.{entry_width}
+use Rattle.list.specs.declared.LentCounts.{LentCounts}
+use Rattle.list.specs.declared.Counted.{Counted}
 use Rattle.list.specs.declared.LentList.{LentList}
 use Rattle.list.specs.declared.LentListMut.{LentListMut}
+use Rattle.list.specs.Lists.{U32List, u32_list}
 use Rattle.list.specs.Holds.{HeldList, held_list}
+
+abbrev pub counts_in : LentCounts → U32List
+counts_in l = u32_list l.sizes l.keys.now l.multiplicities.now
+
+-- a copy of counted places: as many places as it says, from the front of its arrays on
+abbrev pub counted_in : Counted → U32List
+counted_in c =
+    u32_list (record { capacity = c.used; used = c.used }) (take (entry_width * c.used) c.keys) (take c.used c.multiplicities)
 
 abbrev pub held_in : LentList → HeldList
 held_in l = held_list l.sizes l.keys.now l.multiplicities.now l.holds.now

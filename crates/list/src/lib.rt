@@ -3,7 +3,7 @@
 // The arrays are words and no arrays of structs: the C interface lends them so.
 #![tactic(auto)]
 
-ghost use Rattle.std.specs.Prelude.{◌≡◌, true, ℕ, ◌+◌, ◌*◌, ◌-◌, ◌≤◌, ◌<◌, List, IfSome, length, replicate};
+ghost use Rattle.std.specs.Prelude.{◌≡◌, true, ℕ, ◌+◌, ◌*◌, ◌-◌, ◌/◌, ◌≤◌, ◌<◌, List, [], IfSome, OnOk, length, replicate};
 ghost use Rattle.std.proofs.lemmas.List.Edits.{sets};
 ghost use Rattle.std.specs.Option.{unwrap_or};
 ghost use Rattle.words.specs.Limits.{max_places};
@@ -12,8 +12,7 @@ ghost use Rattle.list.specs.Lists.{u32_list, key_at, entry_at, list_shape, count
 ghost use Rattle.list.specs.Heights.{judged_places, judged_list};
 ghost use Rattle.list.specs.Keys.{same_key, find_from};
 ghost use Rattle.list.specs.Counted.{counted as counted_of};
-ghost use Rattle.list.specs.Holds.{held_list, held_shape, open_hold, judged_held};
-ghost use Rattle.list.specs.Lent.{held_in, held_in_mut};
+ghost use Rattle.list.specs.Holds.{held_shape, open_hold, judged_held, section_list};
 ghost use Rattle.list.specs.Eights.{EightDiffer, other_word};
 
 use field::BFieldElement;
@@ -21,10 +20,35 @@ use isa::{Opcode, U32TableEntry};
 use words::{MAX_PLACES, MULTIPLICITY_LIMIT, Refusal};
 
 // A list's places: how many there are, and how many hold an entry.
-#[derive(Clone, Copy)]
+#[derive(Clone, Copy, PartialEq, Eq)]
 pub struct Sizes {
     pub capacity: usize,
     pub used: usize,
+}
+
+// A list without its holds, as it is lent: any words.
+#[derive(Clone, Copy)]
+pub struct LentCounts<'a> {
+    pub sizes: Sizes,
+    pub keys: &'a [u64],
+    pub multiplicities: &'a [u64],
+}
+
+// One whose used places stand in its arrays.
+#[derive(Clone, Copy)]
+pub struct UsedPlaces<'a> {
+    pub list: LentCounts<'a>,
+    pub ghost in_bounds: { (list.sizes.used ≤ max_places) × (entry_width * list.sizes.used ≤ length list.keys.now) × (list.sizes.used ≤ length list.multiplicities.now) },
+}
+
+// The counted places of a list, one after the other, in a copy: their keys and multiplicities, from the front of the two arrays on.
+// The arrays are fixed and no vectors: no call may fail for want of memory.
+#[derive(Drop)]
+pub struct Counted {
+    pub used: usize,
+    pub keys: [u64; U32TableEntry::WIDTH * MAX_PLACES],
+    pub multiplicities: [u64; MAX_PLACES],
+    pub ghost fits: { used ≤ max_places },
 }
 
 // A list as it is lent: its sizes; its keys, three words a place; its multiplicities and its holds, one each a place.
@@ -46,6 +70,8 @@ pub struct LentListMut<'a> {
 }
 
 impl LentListMut<'_> {
+    ghost use Rattle.list.specs.Lent.{held_in, held_in_mut};
+
     // The list, to be looked at.
     pub fn view(&self) -> LentList<'_>
         ensures { held_in result ≡ held_in_mut self.now }
@@ -56,23 +82,6 @@ impl LentListMut<'_> {
             multiplicities: self.multiplicities,
             holds: self.holds,
         }
-    }
-}
-
-// Reason 1 against a list. The capacity is tested before it is multiplied.
-#[tactic(auto, unfolding(crate::specs::Lists::list_shape))]
-pub fn list_shape(sizes: Sizes, keys: &[u64], multiplicities: &[u64]) -> Result<(), Refusal>
-    ensures { result ≡ list_shape (u32_list sizes keys.now multiplicities.now) }
-{
-    let capacity = sizes.capacity;
-    if MAX_PLACES < capacity
-        || capacity < sizes.used
-        || keys.len() != U32TableEntry::WIDTH * capacity
-        || multiplicities.len() != capacity
-    {
-        Err(Refusal::Shape)
-    } else {
-        Ok(())
     }
 }
 
@@ -99,10 +108,7 @@ pub fn put_key(keys: &mut [u64], i: usize, key: U32TableEntry)
     requires { entry_width * i + 2 < length keys.old }
     ensures { keys.new ≡ sets keys.old (entry_width * i) (entry_words key) }
 {
-    let at = U32TableEntry::WIDTH * i;
-    keys[at] = key.opcode;
-    keys[at + 1] = key.left_operand;
-    keys[at + 2] = key.right_operand;
+    words::put_record(keys, i, key.words());
 }
 
 // Yes: the eight places from i on have another word where LHS stands.
@@ -144,13 +150,12 @@ fn holds(keys: &[u64], i: usize, key: U32TableEntry) -> bool
     keys[U32TableEntry::WIDTH * i + 2] == key.right_operand && entry_at(keys, i) == key
 }
 
-// The first of the first n places that holds the key, if one does: eight at a time, up to eight that get a no, or to the last eight; from there one
-// by one.
-pub fn find(keys: &[u64], n: usize, key: U32TableEntry) -> Option<usize>
-    requires { entry_width * n ≤ length keys.now }
-    ensures within { IfSome result (λ at. at < n) }
-    ensures first { (s : Sizes) (ms : List ℕ) → unwrap_or result n ≡ find_from (u32_list s keys.now ms) key 0 n }
+// The first of these places that holds the key, if one does: eight at a time, up to eight that get a no, or to the last eight; from there one by one.
+pub fn find(keys: &[u64], key: U32TableEntry) -> Option<usize>
+    ensures within { IfSome result (λ at. at < length keys.now / entry_width) }
+    ensures first { (s : Sizes) (ms : List ℕ) → unwrap_or result (length keys.now / entry_width) ≡ find_from (u32_list s keys.now ms) key 0 (length keys.now / entry_width) }
 {
+    let n = keys.len() / U32TableEntry::WIDTH;
     let other = other_word(key);
     let eights = n / 8;
     let passed = (0..eights)
@@ -188,105 +193,147 @@ fn admit_by(stored: bool, key: U32TableEntry) -> Result<U32TableEntry, Refusal>
     }
 }
 
-// Reasons 2 to 5 entry by entry, at the first `used` places; where there is none, their height.
-pub fn judge_places(
-    stored: bool,
-    used: usize,
-    keys: &[u64],
-    multiplicities: &[u64],
-) -> Result<u64, Refusal>
-    requires { (used ≤ max_places) × (entry_width * used ≤ length keys.now) × (used ≤ length multiplicities.now) }
-    ensures { (capacity : ℕ) → result ≡ judged_places stored (u32_list (record { capacity = capacity; used = used }) keys.now multiplicities.now) }
-{
-    let mut height: u64 = 0;
-    for place in 0..used {
-        let entry = admit_by(stored, key_at(keys, place))?;
-        if count_full(multiplicities[place]) {
-            return Err(Refusal::CountFull);
+impl LentCounts<'_> {
+    ghost use Rattle.list.specs.Lent.{counts_in};
+
+    // Reason 1. The capacity is tested before it is multiplied.
+    #[tactic(auto, unfolding(crate::specs::Lists::list_shape))]
+    pub fn list_shape(&self) -> Result<(), Refusal>
+        ensures { result ≡ list_shape (counts_in self.now) }
+    {
+        let capacity = self.sizes.capacity;
+        if MAX_PLACES < capacity
+            || capacity < self.sizes.used
+            || self.keys.len() != U32TableEntry::WIDTH * capacity
+            || self.multiplicities.len() != capacity
+        {
+            Err(Refusal::Shape)
+        } else {
+            Ok(())
         }
-        height += entry.table_height_contribution();
     }
-    Ok(height)
-}
 
-// Reason 1, then 2 to 5 entry by entry; where there is none, the list's height.
-pub fn judge_list(sizes: Sizes, keys: &[u64], multiplicities: &[u64]) -> Result<u64, Refusal>
-    ensures { result ≡ judged_list (u32_list sizes keys.now multiplicities.now) }
-{
-    list_shape(sizes, keys, multiplicities)?;
-    judge_places(false, sizes.used, keys, multiplicities)
-}
-
-// Reason 15: an open hold among the first `used` places.
-fn open_hold(used: usize, holds: &[u64]) -> Result<(), Refusal>
-    requires { used ≤ length holds.now }
-    ensures { (capacity : ℕ) (ks ms : List ℕ) → result ≡ open_hold (held_list (record { capacity = capacity; used = used }) ks ms holds.now) }
-{
-    if holds[..used].iter().all(|hold| *hold == 0) {
-        Ok(())
-    } else {
-        Err(Refusal::OpenHold)
-    }
-}
-
-// The places whose multiplicity is not 0, one after the other: their keys and multiplicities, from the front of the two arrays on. The answer is
-// the sizes of the list that they are.
-pub fn counted(
-    sizes: Sizes,
-    keys: &[u64],
-    multiplicities: &[u64],
-    to_keys: &mut [u64],
-    to_multiplicities: &mut [u64],
-) -> Sizes
-    requires used_in_bounds { (entry_width * sizes.used ≤ length keys.now) × (sizes.used ≤ length multiplicities.now) }
-    requires used_in_bounds_2 { (entry_width * sizes.used ≤ length to_keys.old) × (sizes.used ≤ length to_multiplicities.old) }
-    ensures value { result ≡ (counted_of (u32_list sizes keys.now multiplicities.now)).sizes }
-    ensures to_keys_after { to_keys.new ≡ sets to_keys.old 0 (counted_of (u32_list sizes keys.now multiplicities.now)).keys }
-    ensures to_multiplicities_after { to_multiplicities.new ≡ sets to_multiplicities.old 0 (counted_of (u32_list sizes keys.now multiplicities.now)).multiplicities }
-{
-    let mut n: usize = 0;
-    for place in 0..sizes.used {
-        let multiplicity = multiplicities[place];
-        if multiplicity == 0 {
-            continue;
+    // The places whose multiplicity is not 0, one after the other: their keys and multiplicities, from the front of the two arrays on. The answer is
+    // the sizes of the list that they are.
+    pub fn counted(&self, to_keys: &mut [u64], to_multiplicities: &mut [u64]) -> Sizes
+        requires used_in_bounds { (entry_width * self.now.sizes.used ≤ length self.now.keys.now) × (self.now.sizes.used ≤ length self.now.multiplicities.now) }
+        requires used_in_bounds_2 { (entry_width * self.now.sizes.used ≤ length to_keys.old) × (self.now.sizes.used ≤ length to_multiplicities.old) }
+        ensures value { result ≡ (counted_of (counts_in self.now)).sizes }
+        ensures to_keys_after { to_keys.new ≡ sets to_keys.old 0 (counted_of (counts_in self.now)).keys }
+        ensures to_multiplicities_after { to_multiplicities.new ≡ sets to_multiplicities.old 0 (counted_of (counts_in self.now)).multiplicities }
+    {
+        let mut n: usize = 0;
+        for place in 0..self.sizes.used {
+            let multiplicity = self.multiplicities[place];
+            if multiplicity == 0 {
+                continue;
+            }
+            put_key(to_keys, n, key_at(self.keys, place));
+            to_multiplicities[n] = multiplicity;
+            n += 1;
         }
-        put_key(to_keys, n, key_at(keys, place));
-        to_multiplicities[n] = multiplicity;
-        n += 1;
+        Sizes {
+            capacity: n,
+            used: n,
+        }
     }
-    Sizes {
-        capacity: n,
-        used: n,
+
+    // Reason 1, then 2 to 5 entry by entry; where there is none, the list's height.
+    pub fn judge_list(&self) -> Result<u64, Refusal>
+        ensures { result ≡ judged_list (counts_in self.now) }
+    {
+        self.list_shape()?;
+        UsedPlaces { list: *self }.judge_places(false)
     }
 }
 
-// Reasons 2 to 5 entry by entry at the counted places, in a copy; where there is none, their height.
-// The copy is fixed arrays with their sizes beside them and no vectors: no call may fail for want of memory.
-fn judge_counted(sizes: Sizes, keys: &[u64], multiplicities: &[u64]) -> Result<u64, Refusal>
-    requires { (sizes.used ≤ max_places) × (entry_width * sizes.used ≤ length keys.now) × (sizes.used ≤ length multiplicities.now) }
-    ensures { result ≡ judged_list (counted_of (u32_list sizes keys.now multiplicities.now)) }
-{
-    let mut to_keys = [0u64; U32TableEntry::WIDTH * MAX_PLACES];
-    let mut to_multiplicities = [0u64; MAX_PLACES];
-    let copy = counted(
-        sizes,
-        keys,
-        multiplicities,
-        &mut to_keys,
-        &mut to_multiplicities,
-    );
-    let n = copy.used;
-    let end = U32TableEntry::WIDTH * n;
-    judge_list(copy, &to_keys[..end], &to_multiplicities[..n])
+impl UsedPlaces<'_> {
+    ghost use Rattle.list.specs.Lent.{counts_in};
+
+    // Reasons 2 to 5 entry by entry; where there is none, the height.
+    pub fn judge_places(&self, stored: bool) -> Result<u64, Refusal>
+        ensures { result ≡ judged_places stored (counts_in self.now.list) }
+    {
+        let mut height: u64 = 0;
+        for place in 0..self.list.sizes.used {
+            let entry = admit_by(stored, key_at(self.list.keys, place))?;
+            if count_full(self.list.multiplicities[place]) {
+                return Err(Refusal::CountFull);
+            }
+            height += entry.table_height_contribution();
+        }
+        Ok(height)
+    }
 }
 
-impl LentList<'_> {
+impl Counted {
+    ghost use Rattle.list.specs.Lent.{counts_in, counted_in};
+
+    // A copy of no place.
+    pub fn none() -> Counted
+        ensures { counted_in result ≡ u32_list (record { capacity = 0; used = 0 }) [] [] }
+    {
+        Counted {
+            used: 0,
+            keys: [0u64; U32TableEntry::WIDTH * MAX_PLACES],
+            multiplicities: [0u64; MAX_PLACES],
+        }
+    }
+
+    // It becomes a copy of the places whose multiplicity is not 0. It is lent and no answer: an answer of so many words would be copied.
+    pub fn gather(&mut self, places: &UsedPlaces)
+        ensures list { counted_in self.new ≡ counted_of (counts_in places.now.list) }
+    {
+        let copied = places
+            .list
+            .counted(&mut self.keys, &mut self.multiplicities);
+        self.used = copied.used;
+    }
+
+    // The list that they are.
+    pub fn lent(&self) -> UsedPlaces<'_>
+        ensures { counts_in result.list ≡ counted_in self.now }
+    {
+        let used = self.used;
+        UsedPlaces {
+            list: LentCounts {
+                sizes: Sizes {
+                    capacity: used,
+                    used,
+                },
+                keys: &self.keys[..U32TableEntry::WIDTH * used],
+                multiplicities: &self.multiplicities[..used],
+            },
+        }
+    }
+}
+
+impl<'a> LentList<'a> {
+    ghost use Rattle.list.specs.Lent.{counts_in, counted_in, held_in};
+
+    // The list without its holds.
+    pub fn counts(&self) -> LentCounts<'a>
+        ensures { counts_in result ≡ (held_in self.now).list }
+    {
+        let LentList {
+            sizes,
+            keys,
+            multiplicities,
+            ..
+        } = *self;
+        LentCounts {
+            sizes,
+            keys,
+            multiplicities,
+        }
+    }
+
     // Reason 1.
     #[tactic(auto, unfolding(crate::specs::Holds::held_shape))]
     pub fn held_shape(&self) -> Result<(), Refusal>
         ensures { result ≡ held_shape (held_in self.now) }
     {
-        list_shape(self.sizes, self.keys, self.multiplicities)?;
+        self.counts().list_shape()?;
         if self.holds.len() == self.sizes.capacity {
             Ok(())
         } else {
@@ -294,13 +341,41 @@ impl LentList<'_> {
         }
     }
 
-    // Reasons 1 and 15, then 2 to 5 entry by entry; where there is none, the height of what gets sections.
+    // Reason 15: an open hold at a used place.
+    fn open_hold(&self) -> Result<(), Refusal>
+        ensures { result ≡ open_hold (held_in self.now) }
+    {
+        if self
+            .holds
+            .iter()
+            .take(self.sizes.used)
+            .all(|hold| *hold == 0)
+        {
+            Ok(())
+        } else {
+            Err(Refusal::OpenHold)
+        }
+    }
+
+    // Reasons 1 and 15; then the counted places are gathered, which get sections, and 2 to 5 are asked of them entry by entry; where there is none, their height.
+    pub fn judge_counted(&self, counted: &mut Counted) -> Result<u64, Refusal>
+        ensures height { result ≡ judged_held (held_in self.now) }
+        ensures gathered { OnOk result (counted_in counted.new ≡ section_list (held_in self.now)) }
+    {
+        self.held_shape()?;
+        self.open_hold()?;
+        counted.gather(&UsedPlaces {
+            list: self.counts(),
+        });
+        counted.lent().list.judge_list()
+    }
+
+    // The same for who needs the height alone.
     pub fn judge_held(&self) -> Result<u64, Refusal>
         ensures { result ≡ judged_held (held_in self.now) }
     {
-        self.held_shape()?;
-        open_hold(self.sizes.used, self.holds)?;
-        judge_counted(self.sizes, self.keys, self.multiplicities)
+        let mut counted = Counted::none();
+        self.judge_counted(&mut counted)
     }
 }
 

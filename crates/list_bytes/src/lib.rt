@@ -1,19 +1,20 @@
 // The bytes of a stored list: what they hold, and putting them.
 #![tactic(auto)]
 
-ghost use Rattle.std.specs.Prelude.{◌≡◌, ℕ, ◌+◌, ◌*◌, ◌≤◌, ◌<◌, length};
-ghost use mathlib.Core.List.{List, map, flat_map};
+ghost use Rattle.std.specs.Prelude.{◌≡◌, ◌+◌, ◌*◌, ◌≤◌, ◌<◌, length};
+ghost use mathlib.Core.List.{map, flat_map};
 ghost use Rattle.std.proofs.lemmas.List.Edits.{sets};
 ghost use Rattle.words.specs.Limits.{max_places};
 ghost use Rattle.words.specs.LittleEndian.{le};
 ghost use Rattle.words.specs.Places.{places};
 ghost use Rattle.isa.specs.Entries.{entry_words, entry_width};
-ghost use Rattle.list.specs.Lists.{u32_list, entry_at, multiplicity_at};
+ghost use Rattle.list.specs.Lists.{entry_at, multiplicity_at};
+ghost use Rattle.list.specs.Lent.{counts_in};
 ghost use Rattle.list_bytes.specs.Packed.{n_width, head_width, key_width, keys_end, multiplicity_width, length_with, width_of, stored_length, key_bytes, bytes_with};
 ghost use Rattle.list_bytes.specs.Packed.{stored_n, stored_height, stored_entry, stored_multiplicity};
 
 use isa::U32TableEntry;
-use list::Sizes;
+use list::UsedPlaces;
 
 // The bytes of each part: the number of entries, the height, and for each entry a key and its multiplicity.
 const N_WIDTH: usize = 4;
@@ -118,40 +119,41 @@ fn put_entry(out: &mut [u8], at: usize, e: U32TableEntry)
     );
 }
 
-// Stores the bytes of the first n entries from place `at` on.
-fn put_entries(keys: &[u64], n: usize, out: &mut [u8], at: usize)
-    requires { (n ≤ max_places) × (entry_width * n ≤ length keys.now) × (at + key_width * n ≤ length out.old) }
-    ensures { (s : Sizes) (ms : List ℕ) → out.new ≡ sets out.old at (flat_map (λ i. key_bytes (entry_at (u32_list s keys.now ms) i)) (places n)) }
+// Stores the bytes of a list's entries from place `at` on.
+fn put_entries(used: &UsedPlaces, out: &mut [u8], at: usize)
+    requires { at + key_width * used.now.list.sizes.used ≤ length out.old }
+    ensures { out.new ≡ sets out.old at (flat_map (λ i. key_bytes (entry_at (counts_in used.now.list) i)) (places used.now.list.sizes.used)) }
 {
-    for i in 0..n {
-        put_entry(out, at + KEY_WIDTH * i, list::entry_at(keys, i));
+    let list = used.list;
+    for i in 0..list.sizes.used {
+        put_entry(out, at + KEY_WIDTH * i, list::entry_at(list.keys, i));
     }
 }
 
-// Stores the bytes of the first n multiplicities from place `at` on.
-fn put_multiplicities(multiplicities: &[u64], n: usize, out: &mut [u8], at: usize)
-    requires { (n ≤ max_places) × (n ≤ length multiplicities.now) × (at + multiplicity_width * n ≤ length out.old) }
-    ensures { (s : Sizes) (ks : List ℕ) → out.new ≡ sets out.old at (flat_map (λ i. le multiplicity_width (multiplicity_at (u32_list s ks multiplicities.now) i)) (places n)) }
+// Stores the bytes of a list's multiplicities from place `at` on.
+fn put_multiplicities(used: &UsedPlaces, out: &mut [u8], at: usize)
+    requires { at + multiplicity_width * used.now.list.sizes.used ≤ length out.old }
+    ensures { out.new ≡ sets out.old at (flat_map (λ i. le multiplicity_width (multiplicity_at (counts_in used.now.list) i)) (places used.now.list.sizes.used)) }
 {
-    for i in 0..n {
+    let list = used.list;
+    for i in 0..list.sizes.used {
         words::put_le(
             out,
             at + MULTIPLICITY_WIDTH * i,
             MULTIPLICITY_WIDTH,
-            multiplicities[i],
+            list.multiplicities[i],
         );
     }
 }
 
 // Stores the bytes of a list, with this number as its height.
-// Keys and multiplicities are lent one by one: what is written is the copy of the counted places, which has no holds.
-pub fn put_list(sizes: Sizes, height: u64, keys: &[u64], multiplicities: &[u64], out: &mut [u8])
-    requires { (sizes.used ≤ max_places) × (entry_width * sizes.used ≤ length keys.now) × (sizes.used ≤ length multiplicities.now) × (stored_length sizes.used ≤ length out.old) }
-    ensures { out.new ≡ sets out.old 0 (bytes_with height (u32_list sizes keys.now multiplicities.now)) }
+pub fn put_list(places: &UsedPlaces, height: u64, out: &mut [u8])
+    requires { stored_length places.now.list.sizes.used ≤ length out.old }
+    ensures { out.new ≡ sets out.old 0 (bytes_with height (counts_in places.now.list)) }
 {
-    let n = sizes.used;
+    let n = places.list.sizes.used;
     words::put_le(out, 0, N_WIDTH, n as u64);
     words::put_le(out, N_WIDTH, HEIGHT_WIDTH, height);
-    put_entries(keys, n, out, HEAD_WIDTH);
-    put_multiplicities(multiplicities, n, out, HEAD_WIDTH + KEY_WIDTH * n);
+    put_entries(places, out, HEAD_WIDTH);
+    put_multiplicities(places, out, HEAD_WIDTH + KEY_WIDTH * n);
 }

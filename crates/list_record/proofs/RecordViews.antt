@@ -80,16 +80,13 @@ module _ (count hold : ℕ) (h : HeldList) (e : U32TableEntry) (z : number_of (r
       let b = or_both (judge_entry e) _ a.1 in
       record { reason = q; shape = a.0; entry = b.0; place = b.1 }
 
-  left_is : (record_with count hold h e).left ≡ recorded_into count hold h (admitted e)
-  left_is = recorded_left count hold h e accepted.reason
-
   has_room : known h (admitted e) ≡ false → used h.list < capacity h.list
   unfolding place_reason
   has_room k = ltb-true (used h.list) (capacity h.list) (decline_not_fine _ ListFull (rw k at accepted.place))
 
   pub record_view : Recorded count hold (view_of h) (view_of (record_with count hold h e).left) (admitted e)
   unfolding view_of place_reason
-  record_view = subst (λ (m : HeldList). Recorded count hold (view_of h) (view_of m) (admitted e)) (sym left_is) (go (known h (admitted e)) refl) where
+  record_view = subst (λ (m : HeldList). Recorded count hold (view_of h) (view_of m) (admitted e)) (sym (recorded_left count hold h e accepted.reason)) (go (known h (admitted e)) refl) where
     s : HeldShaped h
     s = held_shaped h accepted.shape
 
@@ -109,7 +106,7 @@ module _ (count hold : ℕ) (h : HeldList) (e : U32TableEntry) (z : number_of (r
         (appended_view count hold h (admitted e) s (has_room k))))
 
   pub record_shaped : HeldShaped (record_with count hold h e).left
-  record_shaped = subst HeldShaped (sym left_is) (go (known h (admitted e)) refl) where
+  record_shaped = subst HeldShaped (sym (recorded_left count hold h e accepted.reason)) (go (known h (admitted e)) refl) where
     s : HeldShaped h
     s = held_shaped h accepted.shape
 

@@ -32,12 +32,13 @@ pub enum Place {
     New(U32TableEntry),
 }
 
-// The smallest power of two that is at least the height and at least 256. Above 2^63 no word holds it, and the answer is 0; no list is
-// near that.
+// The smallest power of two that is at least the height and at least 256. Above 2^63 no word holds it, and the answer is 0: no Option, since
+// heights of lists and batches are far below, and each caller would have to unwrap.
 pub fn padded_height(height: u64) -> u64
     ensures exact { height ≤ 2 ^ 63 → result ≡ padded_height height }
     ensures past_a_word { 2 ^ 63 < height → result ≡ 0 }
 {
+    // No `map_or`: its proof would have to tell the two cases apart again.
     match height.checked_next_power_of_two() {
         Some(power) => power.max(MIN_PADDED_HEIGHT),
         None => 0,
@@ -60,7 +61,8 @@ fn find_admitted(list: &LentList, entry: U32TableEntry) -> Result<Place, Refusal
     requires { (entry_width * list.now.sizes.used ≤ length list.now.keys.now) × (list.now.sizes.used ≤ length list.now.multiplicities.now) × (list.now.sizes.used ≤ length list.now.holds.now) }
     ensures { result ≡ place_as (place_reason (held_in list.now) entry) (held_in list.now) entry }
 {
-    match list::find(list.keys, list.sizes.used, entry) {
+    let keys = &list.keys[..U32TableEntry::WIDTH * list.sizes.used];
+    match list::find(keys, entry) {
         Some(at) => {
             if list::one_more_is_full(list.multiplicities[at], list.holds[at]) {
                 Err(Refusal::CountFull)
@@ -89,7 +91,8 @@ pub fn find_place(list: &LentList, entry: U32TableEntry) -> Result<Place, Refusa
 
 // Stores at a place that was found, and answers where: the key there gains so many counts and holds, at most one of each, or the new key is appended
 // with them. A refusal stores nothing, and its reason is the answer.
-// The gains are two numbers and no enum: the definitions of recording and of holding are one rule of two numbers.
+// The gains are two numbers and no enum: the match on it would stand twice below, and (0, 0) and (1, 1) are promised too.
+// `place` may be a refusal, as `find_place` answers it: a type without one would ask more of callers.
 pub fn store(
     list: &mut LentListMut,
     place: Result<Place, Refusal>,

@@ -72,17 +72,28 @@ pub struct Stopped {
     pub done: usize,
 }
 
+// A reason that comes before all steps.
+impl From<Refusal> for Stopped {
+    ghost from_gives = { λ reason stopped. stopped ≡ record { reason = reason; done = 0 } };
+
+    fn from(reason: Refusal) -> Stopped
+        ensures { result ≡ record { reason = reason; done = 0 } }
+    {
+        Stopped { reason, done: 0 }
+    }
+}
+
 // The three words of step i.
 #[tactic(auto, unfolding(crate::specs::Steps::step_at))]
 fn step_at(trace: &[u64], i: usize) -> Step
     requires { step_width * i + 2 < length trace.now }
     ensures { result ≡ step_at trace.now i }
 {
-    let at = STEP_WIDTH * i;
+    let [opcode, first, second]: [u64; STEP_WIDTH] = words::record_at(trace, i);
     Step {
-        opcode: trace[at],
-        first: trace[at + 1],
-        second: trace[at + 2],
+        opcode,
+        first,
+        second,
     }
 }
 
@@ -141,11 +152,8 @@ fn plain_step(opcode: Opcode, first: u64, second: u64) -> Result<StepEntries, Re
 {
     match opcode {
         Opcode::Split => split_step(first),
-        Opcode::Log2Floor => one(opcode, first, 0),
-        Opcode::PopCount => one(opcode, first, 0),
-        Opcode::Lt => one(opcode, first, second),
-        Opcode::And => one(opcode, first, second),
-        Opcode::Pow => one(opcode, first, second),
+        Opcode::Log2Floor | Opcode::PopCount => one(opcode, first, 0),
+        Opcode::Lt | Opcode::And | Opcode::Pow => one(opcode, first, second),
     }
 }
 
@@ -162,8 +170,7 @@ pub fn step_entries(step: Step) -> Result<StepEntries, Refusal>
         Instruction::Plain(plain) => plain_step(plain, first, second),
         Instruction::Xor => one(Opcode::And, first, second),
         Instruction::DivMod => div_mod_step(first, second),
-        Instruction::MerkleStep => merkle_step(first),
-        Instruction::MerkleStepMem => merkle_step(first),
+        Instruction::MerkleStep | Instruction::MerkleStepMem => merkle_step(first),
     }
 }
 
@@ -172,12 +179,8 @@ fn second_place(sizes: Sizes, first: Place, second: Place) -> Result<Place, Refu
     ensures { result ≡ second_place sizes (Ok first) (Ok second) }
 {
     match (first, second) {
-        (Place::New(_), Place::New(_)) => {
-            if sizes.capacity.saturating_sub(sizes.used) < 2 {
-                Err(Refusal::ListFull)
-            } else {
-                Ok(second)
-            }
+        (Place::New(_), Place::New(_)) if sizes.capacity.saturating_sub(sizes.used) < 2 => {
+            Err(Refusal::ListFull)
         }
         _ => Ok(second),
     }
@@ -216,21 +219,13 @@ pub fn replay(list: &mut LentListMut, trace: &[u64]) -> Result<usize, Stopped>
     ensures outcome { Leaves (replay_all (held_in_mut list.old) trace.now) (replayed_answer result) (held_in_mut list.new) }
     ensures same_arrays { SameArrays list.old list.new }
 {
-    // A refusal is handed on by hand: `map_err(..)?` was tried, and its proof did not close.
-    if let Err(reason) = list.view().held_shape() {
-        return Err(Stopped { reason, done: 0 });
-    }
+    list.view().held_shape()?;
     if trace.len() % STEP_WIDTH != 0 {
-        return Err(Stopped {
-            reason: Refusal::Shape,
-            done: 0,
-        });
+        return Err(Stopped::from(Refusal::Shape));
     }
     let steps = trace.len() / STEP_WIDTH;
     for done in 0..steps {
-        if let Err(reason) = replay_step(list, step_at(trace, done)) {
-            return Err(Stopped { reason, done });
-        }
+        replay_step(list, step_at(trace, done)).map_err(|reason| Stopped { reason, done })?;
     }
     Ok(steps)
 }

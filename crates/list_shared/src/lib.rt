@@ -122,10 +122,7 @@ pub fn replay_shared(
     call_beside(
         list,
         other,
-        Err(Stopped {
-            reason: Refusal::Shape,
-            done: 0,
-        }),
+        Err(Stopped::from(Refusal::Shape)),
         |list| list_replay::replay(list, trace),
     )
 }

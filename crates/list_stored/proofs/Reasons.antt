@@ -1,5 +1,5 @@
 -- Reading and writing, reason by reason: when each reason is given, what it tells that none is, and what is due then.
-use mathlib.Core.Path.{◌≡◌, refl, sym, ap, ◌∙◌}
+use mathlib.Core.Path.{◌≡◌, refl, sym, ap, ◌∙◌, subst}
 use mathlib.Core.Bool.{Bool, true, false, not, ◌||◌, or-true}
 use mathlib.Core.Logic.{◌⊎◌, inl, inr}
 use native.Mathlib.Decide.{ℕ_discrete}
@@ -23,8 +23,8 @@ use Rattle.words.proofs.Judgements.{or_first, or_next, or_both, decline_fine, de
 use Rattle.isa.specs.Entries.{entry_words, admit_stored}
 use Rattle.list.specs.Lists.{U32List, capacity, used, entry_at, count_full, judge_entry_by}
 use Rattle.list.specs.Heights.{sum_heights, list_height}
-use Rattle.list.specs.Holds.{HeldList, held_list, held_shape, section_list, judge_held, judged_held}
-use Rattle.list.proofs.HeldLists.{HeldShaped, held_shaped, held_shape_fine, held_told, held_height}
+use Rattle.list.specs.Holds.{HeldList, held_list, held_shape, section_list, judge_held}
+use Rattle.list.proofs.HeldLists.{HeldShaped, held_shaped, held_shape_fine}
 use Rattle.std.specs.Prelude.{Result, Ok, Err}
 use Rattle.list_bytes.specs.Packed.{head_width, stored_places, length_with, stored_length, old_length, width_of, bytes_with, stored_bytes}
 use Rattle.list_bytes.specs.Packed.{stored_n, stored_height, stored_entry, stored_multiplicity, stored_entries}
@@ -61,6 +61,9 @@ module _ (s : List ℕ) where
       go : Dec (length s ≡ old_length (stored_n s)) → length s ≡ length_with (width_of s) (stored_n s)
       go (yes f) = old_long f
       go (no f) = e ∙ ap (λ (w : ℕ). length_with w (stored_n s)) (sym (width_other s f))
+
+pub whole_room : (s : List ℕ) (n : ℕ) → n ≡ stored_n s → Whole s → length_with (width_of s) n ≤ length s
+whole_room s n e h = subst (λ (k : ℕ). length_with (width_of s) k ≤ length s) (sym e) (omega (arith, h.long))
 
 pub whole : (s : List ℕ) → torn s ≡ Fine → Whole s
 unfolding torn
@@ -247,13 +250,6 @@ module _ (l : U32List) (out : List ℕ) where
         → after ≡ sets out 0 (bytes_with m l) → Leaves (stored_as reason l out) (written_answer (Ok n)) after
     unfolding stored_bytes
     stored_done n m after e en em eb = rw (e, length_stored_places l, en, eb, em) (record { answer = refl; left = refl })
-
--- of the list with its holds: where `judge_held` answers a height, its places are within the arrays, and those are few
-pub height_shaped : (h : HeldList) (n : ℕ) → Ok n ≡ judged_held h → HeldShaped h
-height_shaped h n e = held_shaped h (held_told h (held_height h n e).0).0
-
-pub height_few : (h : HeldList) (n : ℕ) → Ok n ≡ judged_held h → used h.list ≤ max_places
-height_few h n e = let s = (height_shaped h n e).list in omega (arith, s.small, s.within)
 
 module _ (h : HeldList) (out : List ℕ) where
   pub write_judged : {k : Refusal} → judge_held h ≡ Declined k → write_reason h out ≡ Declined k

@@ -1,18 +1,16 @@
 // Stored lists: reading bytes into a list, writing a list as bytes. What is wrong is refused with its reason, and then nothing lent changes.
 #![tactic(auto)]
 
-ghost use Rattle.std.specs.Prelude.{◌≡◌, ◌*◌, ◌≤◌, length};
+ghost use Rattle.std.specs.Prelude.{◌≡◌, ◌≤◌};
 ghost use Rattle.words.specs.Limits.{max_places};
 ghost use Rattle.words.specs.Outcomes.{Leaves};
-ghost use Rattle.isa.specs.Entries.{entry_width};
-ghost use Rattle.list.specs.Lists.{u32_list};
 ghost use Rattle.list.specs.Heights.{list_height};
-ghost use Rattle.list.specs.Lent.{held_in, held_in_mut, SameArrays};
+ghost use Rattle.list.specs.Lent.{counts_in, held_in, held_in_mut, SameArrays};
 ghost use Rattle.list_bytes.specs.Packed.{multiplicity_width, length_with};
 ghost use Rattle.list_stored.specs.Stored.{torn, content_reason, read_reason, TakenUnless, read_all, read_answer, storing_reason, stored_as, write_all, written_answer};
 
 use isa::U32TableEntry;
-use list::{LentList, LentListMut, Sizes};
+use list::{Counted, LentCounts, LentList, LentListMut, Sizes, UsedPlaces};
 use list_bytes::StoredList;
 use words::{MAX_PLACES, Refusal};
 
@@ -56,10 +54,21 @@ fn stored_list(bytes: &[u8]) -> Result<StoredList<'_>, Refusal>
 fn judge_content(stored: &StoredList) -> Result<(), Refusal>
     ensures { result ≡ content_reason stored.now.bytes.now }
 {
+    // Two arrays and no `list::Counted`, whose places are counted ones: here a multiplicity may be 0.
     let mut keys = [0u64; U32TableEntry::WIDTH * MAX_PLACES];
     let mut multiplicities = [0u64; MAX_PLACES];
     stored.unpack(&mut keys, &mut multiplicities);
-    let height = list::judge_places(true, stored.n, &keys, &multiplicities)?;
+    let places = UsedPlaces {
+        list: LentCounts {
+            sizes: Sizes {
+                capacity: MAX_PLACES,
+                used: stored.n,
+            },
+            keys: &keys,
+            multiplicities: &multiplicities,
+        },
+    };
+    let height = places.judge_places(true)?;
     if list_repeats::has_repeats(&keys, stored.n) {
         return Err(Refusal::Repeat);
     }
@@ -100,44 +109,26 @@ pub fn read_list(bytes: &[u8], list: &mut LentListMut) -> Result<usize, Refusal>
 }
 
 // Stores the bytes of a list that is judged fine and has this height, and answers their number: reason 11, then 7.
-fn store(
-    sizes: Sizes,
-    height: u64,
-    keys: &[u64],
-    multiplicities: &[u64],
-    out: &mut [u8],
-) -> Result<usize, Refusal>
-    requires used_le_max_places { (sizes.used ≤ max_places) × (entry_width * sizes.used ≤ length keys.now) × (sizes.used ≤ length multiplicities.now) }
-    requires height_value { height ≡ list_height (u32_list sizes keys.now multiplicities.now) }
-    ensures { Leaves (stored_as (storing_reason (u32_list sizes keys.now multiplicities.now) out.old) (u32_list sizes keys.now multiplicities.now) out.old) (written_answer result) out.new }
+fn store(places: &UsedPlaces, height: u64, out: &mut [u8]) -> Result<usize, Refusal>
+    requires { height ≡ list_height (counts_in places.now.list) }
+    ensures { Leaves (stored_as (storing_reason (counts_in places.now.list) out.old) (counts_in places.now.list) out.old) (written_answer result) out.new }
 {
-    let n = sizes.used;
-    if list_repeats::has_repeats(keys, n) {
+    if list_repeats::has_repeats(places.list.keys, places.list.sizes.used) {
         return Err(Refusal::Repeat);
     }
-    let length = length_with(list_bytes::MULTIPLICITY_WIDTH, n);
+    let length = length_with(list_bytes::MULTIPLICITY_WIDTH, places.list.sizes.used);
     if out.len() < length {
         return Err(Refusal::Short);
     }
-    list_bytes::put_list(sizes, height, keys, multiplicities, out);
+    list_bytes::put_list(places, height, out);
     Ok(length)
 }
 
-// Writes a list's counted keys as stored bytes, and answers their number. They are gathered in a copy.
+// Writes a list's counted keys as stored bytes, and answers their number.
 pub fn write_list(list: &LentList, out: &mut [u8]) -> Result<usize, Refusal>
     ensures { Leaves (write_all (held_in list.now) out.old) (written_answer result) out.new }
 {
-    let height = list.judge_held()?;
-    let mut to_keys = [0u64; U32TableEntry::WIDTH * MAX_PLACES];
-    let mut to_multiplicities = [0u64; MAX_PLACES];
-    let copy = list::counted(
-        list.sizes,
-        list.keys,
-        list.multiplicities,
-        &mut to_keys,
-        &mut to_multiplicities,
-    );
-    let n = copy.used;
-    let end = U32TableEntry::WIDTH * n;
-    store(copy, height, &to_keys[..end], &to_multiplicities[..n], out)
+    let mut counted = Counted::none();
+    let height = list.judge_counted(&mut counted)?;
+    store(&counted.lent(), height, out)
 }

@@ -1,10 +1,11 @@
--- What a search for a value finds. find_hit, find_miss and find_none are its steps, for a loop that goes from place i to n; find_run passes a run
--- of places that hold other keys. find_within: it ends at the last place at the latest. Assumes nothing.
-use Prim.Native.Nat.{ℕ, zero, suc, ◌+◌, ◌-◌, ◌≤◌, ◌<◌}
-use mathlib.Core.Path.{◌≡◌, refl, ap, ◌∙◌, subst}
-use mathlib.Core.Bool.{Bool, true, false}
-use mathlib.Core.Logic.{◌≢◌}
+-- What a search for a value finds: find_runs passes the first runs, none of which holds it, and find_at ends at the first place that does.
+-- Assumes nothing.
+use Prim.Native.Nat.{ℕ, zero, suc, ◌+◌, ◌*◌, ◌-◌, ◌≤◌, ◌<◌}
+use mathlib.Core.Path.{◌≡◌, refl, sym, ap, ◌∙◌, subst}
+use mathlib.Core.Bool.{false}
+use mathlib.Core.Logic.{◌≢◌, ⊎_elim}
 use mathlib.Core.List.{List, [], ◌∷◌}
+use native.Mathlib.Nat.{eq-or-lt_of_le, sub-zero}
 use native.Mathlib.Omega.{arith}
 use native.Mathlib.Numerals.{add-one}
 use lib.Dec.{eqb}
@@ -16,16 +17,18 @@ use Rattle.std.proofs.Common.{length-drop}
 use Rattle.lookup.specs.Cascades.{find_from}
 use Rattle.lookup.specs.Recordings.{occurs}
 
+-- ---- the steps of a search
+
 module _ (keys : List ℕ) (v : ℕ) where
-  pub find_hit : (i n : ℕ) → i < n → get_or keys i 0 ≡ v → find_from keys v i (n - i) ≡ i
+  find_hit : (i n : ℕ) → i < n → get_or keys i 0 ≡ v → find_from keys v i (n - i) ≡ i
   unfolding find_from
   find_hit i n h s = let d : n - i ≡ suc (n - (i + 1)) = omega arith in rw d (simp (eq-eqb _ _ s))
 
-  pub find_miss : (i n : ℕ) → i < n → get_or keys i 0 ≢ v → find_from keys v i (n - i) ≡ find_from keys v (i + 1) (n - (i + 1))
+  find_miss : (i n : ℕ) → i < n → get_or keys i 0 ≢ v → find_from keys v i (n - i) ≡ find_from keys v (i + 1) (n - (i + 1))
   unfolding find_from
   find_miss i n h s = let d : n - i ≡ suc (n - (i + 1)) = omega arith in rw d (simp (ne_eqb _ _ s, add-one i))
 
-  pub find_none : (i n : ℕ) → n ≤ i → find_from keys v i (n - i) ≡ i
+  find_none : (i n : ℕ) → n ≤ i → find_from keys v i (n - i) ≡ i
   unfolding find_from
   find_none i n h = let d : n - i ≡ 0 = omega arith in rw d
 
@@ -37,18 +40,15 @@ module _ (keys : List ℕ) (v : ℕ) where
       ∙ find_miss (i + k) n (omega arith) (f k (omega arith))
       ∙ ap (λ (j : ℕ). find_from keys v j (n - j)) (omega arith)
 
-  find_from_within : (i n : ℕ) → find_from keys v i n ≤ i + n
-  unfolding find_from
-  find_from_within i zero = omega arith
-  find_from_within i (suc n) = go (find_from_within (suc i) n) (eqb (get_or keys i 0) v) refl where
-    go : find_from keys v (suc i) n ≤ suc i + n → (t : Bool) → eqb (get_or keys i 0) v ≡ t → find_from keys v i (suc n) ≤ i + suc n
-    go rest true s = rw s (omega arith)
-    go rest false s = rw s (omega arith)
+  -- the first of the places from i on that holds the value, or n
+  pub find_at : (i m n : ℕ) → i ≤ m → m ≤ n → ((k : ℕ) → i ≤ k → k < m → get_or keys k 0 ≢ v)
+      → (m < n → get_or keys m 0 ≡ v) → find_from keys v i (n - i) ≡ m
+  find_at i m n a b none hit =
+      find_misses (m - i) i n (omega arith) (λ j c. none (i + j) (omega arith) (omega arith))
+      ∙ ap (λ (j : ℕ). find_from keys v j (n - j)) (omega arith)
+      ∙ ⊎_elim (λ (q : m ≡ n). find_none m n (omega arith)) (λ (q : m < n). find_hit m n q (hit q)) (eq-or-lt_of_le b)
 
-  pub find_within : (n : ℕ) → find_from keys v 0 n ≤ n
-  find_within n = omega (arith, find_from_within 0 n)
-
--- ---- a run of places
+-- ---- runs of places
 
 occurs_not : (v : ℕ) (ws : List ℕ) → occurs v ws ≡ false → (j : ℕ) → j < length ws → get_or ws j 0 ≢ v
 unfolding occurs
@@ -56,12 +56,25 @@ occurs_not v [] e j h = absurd (omega arith)
 occurs_not v (w ∷ ws) e zero h = eqb-false w v (or_parts (eqb w v) (occurs v ws) e).0
 occurs_not v (w ∷ ws) e (suc j) h = occurs_not v ws (or_parts (eqb w v) (occurs v ws) e).1 j (omega arith)
 
--- a run that does not hold the value is passed
-pub find_run : (keys : List ℕ) (v i from to next n : ℕ) → i ≡ from → to ≡ next → from ≤ to → to ≤ n → n ≤ length keys
-    → occurs v (take (to - from) (drop from keys)) ≡ false → find_from keys v i (n - i) ≡ find_from keys v next (n - next)
-find_run keys v i from to next n p q l h b e =
-    ap (λ (j : ℕ). find_from keys v j (n - j)) p
-    ∙ find_misses keys v (to - from) from n (omega arith)
-    (λ j k. subst (λ (w : ℕ). w ≢ v) (get_or-take (to - from) (drop from keys) j 0 k ∙ get_or-drop from keys j 0)
-    (occurs_not v _ e j (let d = length-drop from keys in let t = length-take-le (to - from) (drop from keys) (omega arith) in omega arith)))
-    ∙ ap (λ (j : ℕ). find_from keys v j (n - j)) (omega arith)
+-- the 256 keys of a run
+abbrev pub run_of : (keys : List ℕ) (run : ℕ) → List ℕ
+run_of keys run = take (256 * run + 256 - 256 * run) (drop (256 * run) keys)
+
+module _ (keys : List ℕ) (v : ℕ) where
+  not_in_run : (run j : ℕ) → 256 * run + 256 ≤ length keys → occurs v (run_of keys run) ≡ false → j < 256 → get_or keys (256 * run + j) 0 ≢ v
+  not_in_run run j h e b =
+      let many : 256 * run + 256 - 256 * run ≡ 256 = omega arith in
+      subst (λ (w : ℕ). w ≢ v) (get_or-take (256 * run + 256 - 256 * run) (drop (256 * run) keys) j 0 (omega arith) ∙ get_or-drop (256 * run) keys j 0)
+      (occurs_not v _ e j
+      (let d = length-drop (256 * run) keys in
+      let t = length-take-le (256 * run + 256 - 256 * run) (drop (256 * run) keys) (omega arith) in
+      omega arith))
+
+  -- the first m runs, none of which holds the value
+  pub find_runs : (m n : ℕ) → 256 * m ≤ n → n ≤ length keys → ((k : ℕ) → k < m → occurs v (run_of keys k) ≡ false)
+      → find_from keys v 0 n ≡ find_from keys v (256 * m) (n - 256 * m)
+  find_runs zero n h l none = ap (find_from keys v 0) (sym (sub-zero n))
+  find_runs (suc m) n h l none =
+      find_runs m n (omega arith) l (λ k b. none k (omega arith))
+      ∙ find_misses keys v 256 (256 * m) n (omega arith) (λ j b. not_in_run m j (omega arith) (none m (omega arith)) b)
+      ∙ ap (λ (j : ℕ). find_from keys v j (n - j)) (omega arith)

@@ -101,20 +101,11 @@ fn find_value(keys: &[u16], n: usize, value: u16) -> Option<usize>
     requires { n ≤ length keys.now }
     ensures { MatchOption result (find_from keys.now value 0 n ≡ n) (λ at. (at < n) × (at ≡ find_from keys.now value 0 n)) }
 {
-    let mut passed: usize = 0;
-    // By number, not by `chunks_exact`: so it is plain which places a run has.
-    for run in 0..n / 256 {
-        if holds(&keys[256 * run..256 * run + 256], value) {
-            break;
-        }
-        passed = 256 * (run + 1);
-    }
-    for place in passed..n {
-        if keys[place] == value {
-            return Some(place);
-        }
-    }
-    None
+    let runs = n / 256;
+    let passed = (0..runs)
+        .find(|run| holds(&keys[256 * *run..256 * *run + 256], value))
+        .unwrap_or(runs);
+    (256 * passed..n).find(|place| keys[*place] == value)
 }
 
 // Whether a multiplicity would be raised past the limit. A sum that no word holds is past it too.

@@ -9,7 +9,6 @@ ghost use Rattle.names.specs.Names.{names_of, name_of, max_name};
 use text::Text;
 
 // The names of a group, in the order of its constraints; no other group has any.
-// The group is its number, as put_name is given it.
 fn names_of(group: u64) -> &'static [&'static str]
     ensures { map (λ name. name.now) result.now ≡ names_of group }
 {
@@ -62,7 +61,7 @@ fn names_of(group: u64) -> &'static [&'static str]
 }
 
 // Puts the line of a constraint's name; an empty line where there is none.
-// Any number of a group may be given: an enum of the four groups would take fewer.
+// Any number may be given as the group: an enum of the four groups would promise nothing of any other, and no promise is to be smaller.
 pub fn put_name(text: &mut Text, group: u64, index: usize)
     requires { HasRoom text.old max_name }
     ensures { Adds text.old (field_line (name_of group index)) text.new }

@@ -30,7 +30,7 @@ pub struct Step {
 pub enum Fault {
     // No such text goes on so: the line.
     Malformed(u64),
-    // More than are taken, as the sheet counts them.
+    // More than are taken. Each sheet says which number it tells: a table's the rows that there are, a batch's the most that are taken.
     TooMany(u64),
 }
 
@@ -156,10 +156,10 @@ pub fn next(place: Place, byte: u8) -> Result<Step, u64>
     }
 }
 
-// As many numbers as a program takes: 16, and ten for each of 16,384 rows. The crates that name these limits stand on this one.
+// As many numbers as the longest text of a table has: 16, and ten for each of 16,384 rows. The crates that name these limits stand on this one.
 const MOST_NUMBERS: usize = 16 + 10 * 16384;
 
-// Room for the numbers of a text, as many as a program takes: all 0.
+// Room for the numbers of a table's text, as u32check and u32archive read it: all 0. u32batch has room of its own.
 pub fn room() -> [u64; MOST_NUMBERS]
     ensures { result ≡ replicate 163856 0 }
 {

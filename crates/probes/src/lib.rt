@@ -53,6 +53,7 @@ fn put_all(
     let consistency = check_rows::consistency_constraints(upper);
     let transition = check_pairs::transition_constraints(challenges, upper, lower, aux, aux_next);
     let terminal = check_rows::terminal_constraints(upper);
+    // Group by group: one `for` over the four chained was tried, and its proof did not close, since `cc` stops before it knows what the chain yields.
     put_elements(values, 0, &initial);
     put_elements(values, CONSISTENCY_FROM, &consistency);
     put_elements(values, TRANSITION_FROM, &transition);
@@ -103,6 +104,7 @@ pub extern "C" fn probe_products(left: &[u64], right: &[u64], out: &mut [u64]) -
     if left.len() != out.len() || right.len() != out.len() {
         return 1;
     }
+    // By index, here and below: `zip` of `iter_mut`, and `as_chunks_mut`, were tried, and after such a loop a proof knows nothing of what was written.
     for (i, product) in out.iter_mut().enumerate() {
         *product = (BFieldElement(left[i]) * BFieldElement(right[i])).0;
     }

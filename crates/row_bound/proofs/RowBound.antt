@@ -25,7 +25,7 @@ use Rattle.list.specs.Holds.{HeldList, section_list}
 use Rattle.table.specs.Columns.{Row, row_at, row_count, all_reduced}
 use Rattle.air.specs.Check.{ConstraintsHold}
 use Rattle.air.proofs.Descent.{Descent, first_ok, bits_zero, steps_bound, rhs_bound, lhs_bound}
-use Rattle.air.proofs.Soundness.{DescentIn, from_row}
+use Rattle.air.proofs.Soundness.{from_row}
 use Rattle.air.proofs.Judging.{accepted}
 use Rattle.air.proofs.Claims.{zero_iff}
 use Rattle.fill.specs.Filling.{filled, fill_reason, fill_all}
@@ -72,16 +72,13 @@ weight_some table i n = go (eqb (row_at table i).copy_flag 1) refl n
     go false e m = absurd (m refl)
 
 module _ (table aux challenges : List ℕ) (r : all_reduced table ≡ true) (holds : ConstraintsHold table aux challenges) where
-  descent : (i : ℕ) → i < row_count table → DescentIn table i
-  descent i h = from_row table aux challenges r holds i h
-
-  room : (i : ℕ) (h : i < row_count table) → (row_at table i).copy_flag ≡ 1 → weight table i ≤ suc (descent i h).steps
-  room i h f = let e = weight_flagged table i f in let b = height_bound (descent i h).descent f in omega arith
+  room : (i : ℕ) (h : i < row_count table) → (row_at table i).copy_flag ≡ 1 → weight table i ≤ suc (from_row table aux challenges r holds i h).steps
+  room i h f = let e = weight_flagged table i f in let b = height_bound (from_row table aux challenges r holds i h).descent f in omega arith
 
   inside : (i : ℕ) → i < row_count table → weight table i ≢ 0 → i + weight table i ≤ row_count table
   inside i h n =
       let b = room i h (weight_some table i n) in
-      let l = (descent i h).inside in
+      let l = (from_row table aux challenges r holds i h).inside in
       omega arith
 
   apart : (i x : ℕ) → i < row_count table → i < x → x < i + weight table i → weight table x ≡ 0
@@ -89,7 +86,7 @@ module _ (table aux challenges : List ℕ) (r : all_reduced table ≡ true) (hol
       let m = room i h (weight_some table i (λ e. omega arith)) in
       let k : ℕ = x - suc i in
       let at : i + suc k ≡ x = omega arith in
-      weight_none table x (ap (λ (y : ℕ). (row_at table y).copy_flag) (sym at) ∙ (descent i h).below k (omega arith))
+      weight_none table x (ap (λ (y : ℕ). (row_at table y).copy_flag) (sym at) ∙ (from_row table aux challenges r holds i h).below k (omega arith))
 
   -- the heights of all CopyFlag 1 rows fit into the table
   all_fit : sum_to (row_count table) (weight table) ≤ row_count table

@@ -10,8 +10,8 @@ use std::fmt;
 use std::fmt::{Display, Formatter};
 use std::io::{Cursor, Error, ErrorKind, Read, Write};
 
-// No program makes so many calls: the loop ends.
-const MOST_CALLS: u64 = 1152921504606846976;
+// No program makes so many calls: a loop over them ends.
+pub const MOST_CALLS: u64 = 1152921504606846976;
 
 // Which of the two could not be read or written, and why.
 #[derive(Clone, Copy)]
@@ -41,6 +41,7 @@ impl Display for Failure {
 }
 
 // Reads until the buffer is full or the input ends.
+// A loop of its own: std's `read_exact` does not say how much came before the end and `read_to_end` allocates; `io::read_full` takes a descriptor.
 pub fn read_full<R: Read>(input: &mut R, buf: &mut [u8]) -> Result<usize, Failure>
     ensures within { FilledIn result buf.new }
     ensures bytes { TakenFrom (R.remaining input.old) (R.remaining input.new) result buf.new }
@@ -72,9 +73,11 @@ pub fn write_all<W: Write>(output: &mut W, bytes: &[u8]) -> Result<(), Failure>
 pub fn write_or_tell<W: Write, E: Write>(output: &mut W, errors: &mut E, bytes: &[u8]) -> bool
     ensures { result ≡ true → Appends (W.contents output.old) (W.contents output.new) bytes.now }
 {
-    write_all(output, bytes)
-        .map_err(|failure| tell(errors, &failure))
-        .is_ok()
+    if let Err(failure) = write_all(output, bytes) {
+        tell(errors, &failure);
+        return false;
+    }
+    true
 }
 
 // Says on standard error, in a line, what failed. Where that fails, there is no place left to say so.

@@ -48,16 +48,10 @@ pub fn denominator_ok<S: Summands>(summands: &S, i: usize) -> bool
 }
 
 // Nothing against any summand.
-#[tactic(auto, using(crate::proofs::ZeroDenominators::denominators_more, crate::proofs::ZeroDenominators::denominators_not_ok), unfolding(crate::specs::RunningSum::denominators_ok))]
 pub fn denominators_ok<S: Summands>(summands: &S) -> bool
     ensures { result ≡ denominators_ok (S.summand summands.now) (S.count summands.now) }
 {
-    for i in 0..summands.count() {
-        if !denominator_ok(summands, i) {
-            return false;
-        }
-    }
-    true
+    (0..summands.count()).all(|i| denominator_ok(summands, i))
 }
 
 // The sum with what summand i adds to it.

@@ -2,4 +2,3 @@ pub mod Rows
 pub mod Denominators
 pub mod Shapes
 pub mod Tens
-pub mod Copies

@@ -64,18 +64,29 @@ impl MainRow {
         requires { main_width * i + main_width ≤ length table.now }
         ensures { row_of result ≡ row_at table.now i }
     {
-        let k = Self::WIDTH * i;
+        let [
+            copy_flag,
+            bits,
+            bits_minus_33_inv,
+            ci,
+            lhs,
+            lhs_inv,
+            rhs,
+            rhs_inv,
+            result,
+            lookup_multiplicity,
+        ]: [BFieldElement; Self::WIDTH] = words::record_at(table, i).map(BFieldElement);
         MainRow {
-            copy_flag: BFieldElement(table[k]),
-            bits: BFieldElement(table[k + 1]),
-            bits_minus_33_inv: BFieldElement(table[k + 2]),
-            ci: BFieldElement(table[k + 3]),
-            lhs: BFieldElement(table[k + 4]),
-            lhs_inv: BFieldElement(table[k + 5]),
-            rhs: BFieldElement(table[k + 6]),
-            rhs_inv: BFieldElement(table[k + 7]),
-            result: BFieldElement(table[k + 8]),
-            lookup_multiplicity: BFieldElement(table[k + 9]),
+            copy_flag,
+            bits,
+            bits_minus_33_inv,
+            ci,
+            lhs,
+            lhs_inv,
+            rhs,
+            rhs_inv,
+            result,
+            lookup_multiplicity,
         }
     }
 
@@ -103,8 +114,7 @@ impl MainRow {
         requires { main_width * i + main_width ≤ length table.old }
         ensures { table.new ≡ sets table.old (main_width * i) (row_words (row_of self)) }
     {
-        let k = Self::WIDTH * i;
-        table[k..k + Self::WIDTH].copy_from_slice(&self.words());
+        words::put_record(table, i, self.words());
     }
 }
 
@@ -114,12 +124,8 @@ pub fn element_at(words: &[u64], i: usize) -> XFieldElement
     requires { 3 * i + 3 ≤ length words.now }
     ensures { ext_of result ≡ element_at words.now i }
 {
-    let k = XFieldElement::WIDTH * i;
-    XFieldElement(
-        BFieldElement(words[k]),
-        BFieldElement(words[k + 1]),
-        BFieldElement(words[k + 2]),
-    )
+    let [a, b, c]: [u64; XFieldElement::WIDTH] = words::record_at(words, i);
+    XFieldElement(BFieldElement(a), BFieldElement(b), BFieldElement(c))
 }
 
 // Stores an extension element as element i of such words.
@@ -127,8 +133,7 @@ pub fn put_element(words: &mut [u64], i: usize, element: XFieldElement)
     requires { 3 * i + 3 ≤ length words.old }
     ensures { words.new ≡ sets words.old (3 * i) (words_x (ext_of element)) }
 {
-    let at = XFieldElement::WIDTH * i;
-    words[at..at + XFieldElement::WIDTH].copy_from_slice(&element.words());
+    words::put_record(words, i, element.words());
 }
 
 // A row of the aux table: the sum so far, in one column of an extension element.
@@ -230,9 +235,9 @@ pub fn have_shapes(table: &[u64], aux: &[u64], challenges: &[u64]) -> bool
         && (AuxRow::has_shape(table, aux) && Challenges::has_shape(challenges))
 }
 
-// Every word of the table and of the challenges is below p.
-pub fn are_reduced(table: &[u64], challenges: &[u64]) -> bool
-    ensures { result ≡ (all_reduced table.now && all_reduced challenges.now) }
+// Every word of two arrays is below p.
+pub fn are_reduced(first: &[u64], second: &[u64]) -> bool
+    ensures { result ≡ (all_reduced first.now && all_reduced second.now) }
 {
-    all_reduced(table) && all_reduced(challenges)
+    all_reduced(first) && all_reduced(second)
 }

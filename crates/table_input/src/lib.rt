@@ -2,15 +2,12 @@
 // bytes are read; this one says that the numbers of the text have places among the lent words.
 #![tactic(auto)]
 
-ghost use Rattle.std.specs.Prelude.{◌≤◌, length, OnOk};
+ghost use Rattle.std.specs.Prelude.{◌≡◌, ◌≤◌, length, true, OnOk};
 ghost use Rattle.table_input.specs.Reads.{ReadWithin, AnswerWritten};
 
 use numbers::{Answered, Fault, Reader, Sheet};
 use std::io::{Error, ErrorKind, Read, Write};
-use streams::Failure;
-
-// No input has so many parts: the loop ends.
-const MOST_PARTS: u64 = 1152921504606846976;
+use streams::{Failure, MOST_CALLS};
 
 // Reads the whole text. It is over where a part is not full, and the rest does not count after a fault.
 // That there are words enough, and places for the numbers, stay clauses: `numbers::feed` and `Fits` say why.
@@ -24,9 +21,10 @@ pub fn read_text<S: Sheet, R: Read>(
 {
     let mut part = io::large_buffer();
     let mut stage = Ok(start);
-    for _ in 0..MOST_PARTS {
+    for _ in 0..MOST_CALLS {
         let length = streams::read_full(input, &mut part)?;
         stage = numbers::feed(stage, &part[..length], words);
+        // A `match` with a guard was tried: two ways would join by which the function holds different things, which is not covered.
         if length < part.len() || stage.is_err() {
             return Ok(stage);
         }
@@ -48,4 +46,24 @@ pub fn answer<S: Answered, R: Read, W: Write>(
     let stage = read_text(start, input, words)?;
     let length = S::put_answer(stage, words, out);
     streams::write_all(output, &out[..length])
+}
+
+// The same, and where the text can't be read or the answer can't be written, says so on standard error; answers whether the answer is written.
+// The three streams are parameters: a program's `main` alone has them.
+pub fn answer_or_tell<S: Answered, R: Read, W: Write, E: Write>(
+    start: Reader<S>,
+    input: &mut R,
+    output: &mut W,
+    errors: &mut E,
+    words: &mut [u64],
+    out: &mut [u8],
+) -> bool
+    requires { (S.room ≤ length words.old) × (S.longest ≤ length out.old) × S.Fits start.sheet }
+    ensures { result ≡ true → AnswerWritten S.Fits S.answer (W.contents output.old) (W.contents output.new) }
+{
+    if let Err(failure) = answer(start, input, output, words, out) {
+        streams::tell(errors, &failure);
+        return false;
+    }
+    true
 }

@@ -1,11 +1,10 @@
 -- The text that is due after extension, after the check and at the end of a table's text: from what each call's contract says of its answer,
 -- and the text that was put then. Assumes nothing.
 use Prim.Native.Nat.{ℕ}
-use mathlib.Core.Path.{◌≡◌, refl, ap, ◌∙◌}
+use mathlib.Core.Path.{◌≡◌, refl, sym, ap, ◌∙◌}
 use mathlib.Core.List.{List, [], ◌∷◌}
 use native.Mathlib.Omega.{arith}
 use lib.ListN.{length}
-use Rattle.words.specs.Answers.{Answer, done, declined}
 use Rattle.words.specs.Outcomes.{Leaves}
 use Rattle.words.specs.Refusals.{refusal_number}
 use Rattle.words.specs.declared.Refusal.{Refusal}
@@ -16,7 +15,7 @@ use Rattle.sums.specs.RunningSum.{element_words}
 use Rattle.fill.specs.Extending.{extend_all}
 use Rattle.extend.specs.Extensions.{extended_answer}
 use Rattle.check_search.specs.declared.Nonzero.{Nonzero}
-use Rattle.check_search.specs.Finds.{group_number}
+use Rattle.check_search.specs.Finds.{group_number, nonzero_answer}
 use Rattle.check_table.specs.Verdicts.{Verdict, verdict_answer}
 use Rattle.text.specs.Lines.{verdict_line, refused_line, field_line}
 use Rattle.text.specs.declared.Text.{Text}
@@ -25,21 +24,13 @@ use Rattle.text.proofs.Lengths.{field_length, verdict_bound}
 use Rattle.text.proofs.Adding.{reached}
 use Rattle.text.proofs.Putting.{put_then}
 use Rattle.transcript.specs.Transcript.{unless_refused}
-use Rattle.words.proofs.Answers.{not_done}
+use Rattle.transcript.proofs.Steps.{refused, text_made}
 use Rattle.names.specs.Names.{name_of}
 use Rattle.names.proofs.Named.{name_bound}
 use Rattle.std.specs.Prelude.{Result, Ok, Err, Option, Some, None}
 use Rattle.numbers.specs.declared.Fault.{Fault}
 use Rattle.table_text.specs.TableText.{Stage, end_number, taken_of, IsFed}
 use Rattle.table_text.specs.Answers.{verdict_lines, verdict_due, verdict_text, taken_text, answer_text, max_answer}
-
-refused : {due : Answer} (text : List ℕ) (reason : Refusal) → declined reason ≡ due → unless_refused due text ≡ refused_line (refusal_number reason)
-unfolding unless_refused
-refused text reason e = rw (← e, not_done reason)
-
-made : {due : Answer} (text vs : List ℕ) → done vs ≡ due → unless_refused due text ≡ text
-unfolding unless_refused
-made text vs e = rw (← e)
 
 -- ---- the check
 -- the verdict after its name, wherever they stand in a buffer
@@ -56,22 +47,22 @@ module _ {old new : Text} where
 
   pub found_none : {o : Option Nonzero} → o ≡ None → Adds old (verdict_line []) new → Adds old (verdict_due (Ok o)) new
   unfolding verdict_lines
-  found_none e p = rw (e, made _ [] refl) p
+  found_none e p = rw (e, text_made _ [] refl) p
 
-  pub found_some : {mid : Text} (found : Nonzero) {o : Option Nonzero} {group : ℕ} → o ≡ Some found → group ≡ group_number found.group
-      → Adds old (field_line (name_of group found.index)) mid
-      → Adds mid (verdict_line (group ∷ found.row ∷ found.index ∷ element_words (ext_of found.value))) new → Adds old (verdict_due (Ok o)) new
-  found_some {mid} found {o} e is p q = record {
-    put = verdict_nonzero (Ok o) {d2 = mid.out.now} {a = mid.len} found (ap Ok e) (rw (← is) p.put) (rw (← is) q.put);
+  pub found_some : {mid : Text} (found : Nonzero) {o : Option Nonzero} → o ≡ Some found
+      → Adds old (field_line (name_of (group_number found.group) found.index)) mid
+      → Adds mid (verdict_line (nonzero_answer found).values) new → Adds old (verdict_due (Ok o)) new
+  found_some {mid} found {o} e p q = record {
+    put = verdict_nonzero (Ok o) {d2 = mid.out.now} {a = mid.len} found (ap Ok e) p.put q.put;
     same = q.same ∙ p.same;
   }
 
 -- there is room for the verdict after a name
-pub nonzero_fits : {old mid : Text} (group row index a b c : ℕ) → HasRoom old max_answer → Adds old (field_line (name_of group index)) mid
-    → HasRoom mid (length (verdict_line (group ∷ row ∷ index ∷ a ∷ b ∷ c ∷ [])))
-nonzero_fits group row index a b c h p =
+pub nonzero_fits : {old mid : Text} (group : ℕ) (found : Nonzero) → HasRoom old max_answer → Adds old (field_line (name_of group found.index)) mid
+    → HasRoom mid (length (verdict_line (nonzero_answer found).values))
+nonzero_fits group found h p =
     let r = reached p in
-    omega (arith, r.len, r.size, h, field_length (name_of group index), name_bound group index, verdict_bound (group ∷ row ∷ index ∷ a ∷ b ∷ c ∷ []))
+    omega (arith, r.len, r.size, h, field_length (name_of group found.index), name_bound group found.index, verdict_bound (nonzero_answer found).values)
 
 -- ---- extension, then the check
 module _ (challenges table aux : List ℕ) where
@@ -84,7 +75,7 @@ module _ (challenges table aux : List ℕ) where
       → Leaves (extend_all table aux challenges) (extended_answer (Ok sum)) after → verdict_answer v ≡ check_all table after challenges
       → verdict_due v ≡ verdict_text challenges table aux
   unfolding verdict_text
-  extension_made sum after v e k = rw (made _ (element_words (ext_of sum)) e.answer, ← e.left, ← k)
+  extension_made sum after v e k = rw (text_made _ (element_words (ext_of sum)) (sym e.answer), ← e.left, ← k)
 
 -- ---- the end of a text
 module _ {old new : Text} (stage : Stage) (words aux : List ℕ) {end : Stage} {after : List ℕ} (ended : IsFed (end_number stage words) end after)

@@ -8,7 +8,7 @@ use lib.ListN.{set}
 use Rattle.std.specs.Prelude.{Ok, Err}
 use Rattle.numbers.specs.declared.Fault.TheVariants.{Malformed, TooMany}
 use Rattle.numbers.specs.declared.Reader.{Reader}
-use Rattle.numbers.specs.Sheets.{IsTaken}
+use Rattle.numbers.specs.Sheets.{IsTaken, fed}
 use Rattle.numbers.proofs.Sheets as sheets
 use Rattle.table_text.specs.declared.TableSheet.{TableSheet}
 use Rattle.table_text.specs.TableText.{rows_at, head_numbers, most_rows, max_words, Stage, sheet, take_number, takes, feed_all, taken_of, Fits}
@@ -25,17 +25,22 @@ module _ (line count due value : ℕ) (words : List ℕ) where
     take_too_many_rows e h =
         rw (lt-leb due count more, eq-eqb count rows_at e, lt-ltb most_rows value h) (record { stage = refl; words = refl; within = tt })
 
+    pub rows_fed : count ≡ rows_at → value ≤ most_rows
+        → take_number line count due value words ≡ fed (Ok (sheet head_numbers (head_numbers + 10 * value))) (set words count value)
+    unfolding take_number
+    rows_fed e h = rw (lt-leb due count more, eq-eqb count rows_at e, le-ltb most_rows value h)
+
+    pub word_fed : (count ≡ rows_at → ⊥) → take_number line count due value words ≡ fed (Ok (sheet (count + 1) due)) (set words count value)
+    unfolding take_number
+    word_fed e = rw (lt-leb due count more, ne_eqb count rows_at e)
+
     pub take_rows : count ≡ rows_at → value ≤ most_rows
         → IsTaken Fits (take_number line count due value words) (Ok (sheet head_numbers (head_numbers + 10 * value))) (set words count value)
-    unfolding take_number
-    take_rows e h =
-        rw (lt-leb due count more, eq-eqb count rows_at e, le-ltb most_rows value h)
-        (record { stage = refl; words = refl; within = omega arith })
+    take_rows e h = rw (rows_fed e h) (record { stage = refl; words = refl; within = omega arith })
 
     pub take_word : (count ≡ rows_at → ⊥) → due ≤ max_words
         → IsTaken Fits (take_number line count due value words) (Ok (sheet (count + 1) due)) (set words count value)
-    unfolding take_number
-    take_word e h = rw (lt-leb due count more, ne_eqb count rows_at e) (record { stage = refl; words = refl; within = h })
+    take_word e h = rw (word_fed e) (record { stage = refl; words = refl; within = h })
 
 -- ---- the end of the text
 module _ (r : Reader TableSheet) where

@@ -5,7 +5,7 @@ use mathlib.Core.Path.{◌≡◌, refl, ap, ◌∙◌}
 use mathlib.Core.List.{List, [], ◌∷◌}
 use native.Mathlib.Numerals.{add-one}
 use native.Mathlib.Omega.{arith}
-use borrow.Author.Tests.{le-leb, lt-leb, eq-eqb, ne_eqb, le-ltb}
+use borrow.Author.Tests.{le-leb}
 use lib.ListN.{set}
 use lib.Seq.{sets}
 use Rattle.numbers.specs.declared.Place.{Place}
@@ -13,7 +13,8 @@ use Rattle.numbers.specs.declared.Step.{Step}
 use Rattle.std.specs.Prelude.{Option, None, Some, Result, Ok, Err, option_to_list}
 use Rattle.numbers.specs.Numbers.{start_place, step_of, Reading, numbers, fault, before, before_if, read_after, read_from, read_text}
 use Rattle.numbers.specs.Sheets as sheets
-use Rattle.table_text.specs.TableText.{rows_at, head_numbers, most_rows, Stage, Fed, sheet, start_stage, take_number, takes, feed_all, end_number, taken_of}
+use Rattle.table_text.specs.TableText.{rows_at, head_numbers, most_rows, Stage, Fed, sheet, start_stage, takes, feed_all, end_number, taken_of}
+use Rattle.table_text.proofs.Feeding.{rows_fed, word_fed}
 
 -- the numbers that follow, where `count` of `due` were read, make a table of so many rows
 pub data Completes : (count due : ℕ) → List ℕ → (rows : ℕ) → Type 0 where
@@ -38,16 +39,6 @@ at_work p count due = Ok (sheets.reader p (sheet count due))
 abbrev number_fed : Place → (n count due : ℕ) → (words : List ℕ) → Fed
 number_fed p n count due words = sheets.take_ended takes p (Some n) (sheet count due) words
 
-module _ (line n count due : ℕ) (words : List ℕ) where
-  take_word : count < due → (count ≡ rows_at → ⊥) → take_number line count due n words ≡ sheets.fed (Ok (sheet (count + 1) due)) (set words count n)
-  unfolding take_number
-  take_word m e = rw (lt-leb due count m, ne_eqb count rows_at e)
-
-  take_rows : count ≡ rows_at → count < due → n ≤ most_rows
-      → take_number line count due n words ≡ sheets.fed (Ok (sheet head_numbers (head_numbers + 10 * n))) (set words count n)
-  unfolding take_number
-  take_rows e m h = rw (lt-leb due count m, eq-eqb count rows_at e, le-ltb most_rows n h)
-
 numbers_in : Reading → List ℕ
 numbers_in (numbers ns) = ns
 numbers_in (fault line) = []
@@ -67,9 +58,9 @@ module _ (p : Place) (k : ℕ) (words : List ℕ) where
 last_taken : (p : Place) (n count due k : ℕ) (words : List ℕ) → Completes count due (n ∷ []) k
     → TakenAs k (set words count n) (number_fed p n count due words)
 last_taken p n count due k words (word m e c) =
-    rw (take_word p.line n count due words m e) (none_left p k (set words count n) (count + 1) due c)
+    rw (word_fed p.line count due n words m e) (none_left p k (set words count n) (count + 1) due c)
 last_taken p n count due k words (rows e m h c) =
-    rw (take_rows p.line n count due words e m h) (none_left p k (set words count n) head_numbers (head_numbers + 10 * n) c)
+    rw (rows_fed p.line count due n words m e h) (none_left p k (set words count n) head_numbers (head_numbers + 10 * n) c)
 
 end_taken : (p : Place) (count due k : ℕ) (ns words : List ℕ) (number : Option ℕ) → numbers (option_to_list number) ≡ numbers ns
     → Completes count due ns k → TakenAs k (sets words count ns) (sheets.take_ended takes p number (sheet count due) words)
@@ -91,11 +82,11 @@ module _ (k : ℕ) (text : List ℕ) (t : Takes k text) (q : Place) (n count due
       → TakenAs k (sets words count (n ∷ ns)) (finished (number_fed q n count due words).stage text (number_fed q n count due words).words)
   number_taken ns e (word m d c) =
       let w = t q (count + 1) due ns (set words count n) e c in
-      rw (take_word q.line n count due words m d) (record { taken = w.taken; words = w.words ∙ rw (add-one count) })
+      rw (word_fed q.line count due n words m d) (record { taken = w.taken; words = w.words ∙ rw (add-one count) })
   number_taken ns e (rows d m h c) =
       let w = t q head_numbers (head_numbers + 10 * n) ns (set words count n) e c in
       let s : suc count ≡ head_numbers = omega arith in
-      rw (take_rows q.line n count due words d m h) (record { taken = w.taken; words = w.words ∙ rw s })
+      rw (rows_fed q.line count due n words m d h) (record { taken = w.taken; words = w.words ∙ rw s })
 
   before_taken : (ns : List ℕ) (x : Reading) → read_from q text ≡ x → before n x ≡ numbers ns → Completes count due ns k
       → TakenAs k (sets words count ns) (finished (number_fed q n count due words).stage text (number_fed q n count due words).words)

@@ -85,10 +85,7 @@ pub fn judge_end(ended: Result<Reader<TableSheet>, Fault>) -> Result<usize, Faul
     let reader = ended?;
     let count = reader.sheet.count;
     let due = reader.sheet.due;
-    if count < due {
-        return Err(Fault::Malformed(reader.place.line));
-    }
-    if due < HEAD {
+    if count < due || due < HEAD {
         return Err(Fault::Malformed(reader.place.line));
     }
     Ok((due - HEAD) / MainRow::WIDTH)
@@ -103,14 +100,8 @@ fn put_found(text: &mut Text, found: Option<Nonzero>)
     match found {
         None => text.put_zero(),
         Some(nonzero) => {
-            let group = u64::from(nonzero.group);
-            names::put_name(text, group, nonzero.index);
-            text.put_nonzero(
-                group,
-                nonzero.row as u64,
-                nonzero.index as u64,
-                nonzero.value,
-            );
+            names::put_name(text, u64::from(nonzero.group), nonzero.index);
+            transcript::put_nonzero(text, nonzero);
         }
     }
 }
@@ -191,6 +182,7 @@ impl Answered for TableSheet {
     ghost answer = { λ stage words. answer_text stage words (replicate (3 * most_rows) 0) };
 
     // The sums begin as 0. The clauses stand here again: the check can't give this method those of its trait.
+    // `words` and `out` are no struct: it would be lent, and the `ensures` would have to say besides that its `out` is still the caller's.
     fn put_answer(
         stage: Result<Reader<TableSheet>, Fault>,
         words: &mut [u64],

@@ -1,22 +1,16 @@
 -- Laws of `Adds`: one part after another, where the text then ends, and a part for each item of a list. Assumes nothing.
 use Prim.Native.Nat.{ℕ, ◌+◌, ◌≤◌, ◌<◌}
-use mathlib.Core.Path.{◌≡◌, refl, sym, ◌∙◌}
-use mathlib.Core.List.{List, [], ◌++◌, append_assoc}
+use mathlib.Core.Path.{◌≡◌, refl, ◌∙◌}
+use mathlib.Core.List.{List, [], ◌++◌}
 use native.Mathlib.Omega.{arith}
 use lib.ListN.{length, get_or, take}
-use lib.Seq.{sets, sets-eq, take_all}
+use lib.Seq.{take_all}
 use Rattle.std.specs.List.{flat_map}
-use Rattle.std.proofs.lemmas.List.{drop-drop, take_more, flat_map_more}
+use Rattle.std.proofs.lemmas.List.{take_more, flat_map_more}
 use Rattle.std.proofs.lemmas.List.Folds.{length-flat_map-take}
-use borrow.Rule.Slice.PartMut.{put_mid}
 use Rattle.text.specs.declared.Text.{Text}
 use Rattle.text.specs.Put.{Put, HasRoom, Adds}
 use Rattle.text.proofs.Putting.{put_length, put_none, put_then}
-
--- a part of a buffer that is written over
-pub part_sets : (d part bytes : List ℕ) (a k : ℕ) → part ≡ bytes → k ≡ length bytes → a + length bytes ≤ length d
-    → put_mid a k d part ≡ sets d a bytes
-part_sets d part bytes a k e f h = rw (e, f, drop-drop, ← append_assoc) (sym (sets-eq bytes d a h))
 
 -- nothing
 pub adds_none : (t : Text) → HasRoom t 0 → Adds t [] t

@@ -129,7 +129,7 @@ impl<'a> Text<'a> {
     }
 
     // Puts the line of a check that found a constraint that is not zero.
-    // Any number of a group may be given: an enum of the four groups would take fewer.
+    // Any number may be given as the group: an enum of the four groups would promise nothing of any other, and no promise is to be smaller.
     pub fn put_nonzero(&mut self, group: u64, row: u64, index: u64, value: XFieldElement)
         requires { HasRoom self.old (length (verdict_line (group ∷ row ∷ index ∷ value.0.0 ∷ value.1.0 ∷ value.2.0 ∷ []))) }
         ensures { Adds self.old (verdict_line (group ∷ row ∷ index ∷ value.0.0 ∷ value.1.0 ∷ value.2.0 ∷ [])) self.new }

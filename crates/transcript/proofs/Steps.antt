@@ -1,6 +1,6 @@
 -- The text that is due after each call: from what the call's contract says of its answer and of what it left, and the text that was put
 -- then. Assumes nothing.
-use Prim.Native.Nat.{ℕ, zero, suc, ◌-◌, ◌*◌, ◌≤◌, ◌<◌}
+use Prim.Native.Nat.{ℕ, ◌-◌, ◌*◌, ◌≤◌, ◌<◌}
 use mathlib.Core.Path.{◌≡◌, refl, sym, ap, ◌∙◌}
 use mathlib.Core.List.{List, [], ◌∷◌, ◌++◌}
 use native.Mathlib.Omega.{arith}
@@ -8,6 +8,7 @@ use borrow.Author.Tests.{ltb-false, lt-ltb, le-ltb}
 use lib.Dec.{ltb}
 use lib.ListN.{length, get_or, take, drop, length-replicate, length-drop}
 use lib.Seq.{sets, length-sets, take_all}
+use Rattle.std.proofs.lemmas.List.{take-replicate}
 use Rattle.std.specs.Prelude.{Option, None, Some, Result, Ok, Err}
 use Rattle.words.specs.Answers.{Answer, done, declined}
 use Rattle.words.specs.Outcomes.{Outcome, Leaves, answered}
@@ -46,18 +47,13 @@ use Rattle.transcript.proofs.Fits.{transcript_fits}
 
 -- ---- a call that is refused, and one that is made
 
+pub refused : {due : Answer} (text : List ℕ) (reason : Refusal) → declined reason ≡ due → unless_refused due text ≡ refused_line (refusal_number reason)
+unfolding unless_refused
+refused text reason e = rw (← e, not_done reason)
+
 pub text_made : {a : Answer} (text vs : List ℕ) → a ≡ done vs → unless_refused a text ≡ text
 unfolding unless_refused
 text_made text vs e = rw e
-
-module _ {due : Answer} (text : List ℕ) where
-  refused : (reason : Refusal) → declined reason ≡ due → unless_refused due text ≡ refused_line (refusal_number reason)
-  unfolding unless_refused
-  refused reason e = rw (← e, not_done reason)
-
-  made : (vs : List ℕ) → done vs ≡ due → unless_refused due text ≡ text
-  unfolding unless_refused
-  made vs e = rw (← e)
 
 -- ---- the check
 
@@ -72,13 +68,13 @@ module _ (n height padded : ℕ) (table sum : List ℕ) where
   pub result_zero : {found : Option Nonzero} → found ≡ None
       → due n height padded table sum (Ok found) ≡ opening_text n height padded table sum ++ verdict_line []
   unfolding result_text
-  result_zero e = rw e (made _ [] refl)
+  result_zero e = rw e (text_made _ [] refl)
 
   pub result_nonzero : {found : Option Nonzero} (f : Nonzero) → found ≡ Some f
       → due n height padded table sum (Ok found)
       ≡ opening_text n height padded table sum ++ verdict_line (group_number f.group ∷ f.row ∷ f.index ∷ element_words (ext_of f.value))
   unfolding result_text
-  result_nonzero f e = rw e (made _ (nonzero (group_number f.group) f.row f.index (ext_of f.value)).values refl)
+  result_nonzero f e = rw e (text_made _ (nonzero (group_number f.group) f.row f.index (ext_of f.value)).values refl)
 
 -- ---- the other calls
 
@@ -94,7 +90,7 @@ module _ (n height padded : ℕ) (table aux challenges : List ℕ) where
   unfolding extended_text checked_text
   extension_made sum v e k =
       let values : element_words (ext_of sum) ≡ (extend_all table aux challenges).answer.values = ap (λ (a : Answer). a.values) e.answer in
-      made _ (element_words (ext_of sum)) e.answer ∙ rw (← values, ← e.left, ← k)
+      text_made _ (element_words (ext_of sum)) (sym e.answer) ∙ rw (← values, ← e.left, ← k)
 
   pub padding_refused : (reason : Refusal) {after : List ℕ} → Leaves (pad_all table height) (declined reason) after
       → padded_text n height padded table aux challenges ≡ refused_line (refusal_number reason)
@@ -104,7 +100,7 @@ module _ (n height padded : ℕ) (table aux challenges : List ℕ) where
   pub padding_made : {after : List ℕ} → Leaves (pad_all table height) (done []) after
       → padded_text n height padded table aux challenges ≡ extended_text n height padded after aux challenges
   unfolding padded_text
-  padding_made e = made _ [] e.answer ∙ rw (← e.left)
+  padding_made e = text_made _ [] (sym e.answer) ∙ rw (← e.left)
 
 module _ (h : HeldList) (challenges : List ℕ) (height padded : ℕ) where
   module _ (table aux : List ℕ) where
@@ -116,7 +112,7 @@ module _ (h : HeldList) (challenges : List ℕ) (height padded : ℕ) where
     pub filling_made : (rows : ℕ) {after : List ℕ} → Leaves (fill_all h table) (done (rows ∷ [])) after
         → calls_text h challenges height padded table aux ≡ padded_text (used h.list) height padded after aux challenges
     unfolding calls_text
-    filling_made rows e = made _ (rows ∷ []) e.answer ∙ rw (← e.left)
+    filling_made rows e = text_made _ (rows ∷ []) (sym e.answer) ∙ rw (← e.left)
 
   -- a padded height over 512, and one that is not
   pub height_refused : max_printed_rows < padded → height_text h challenges height padded ≡ refused_line (refusal_number Short)
@@ -136,7 +132,7 @@ module _ (h : HeldList) (challenges : List ℕ) {plan : Result Heights Refusal} 
 
   pub plan_made : (heights : Heights) → plan ≡ Ok heights → list_text h challenges ≡ height_text h challenges heights.height heights.padded
   unfolding list_text plan_all
-  plan_made heights k = made _ (height ∷ padded ∷ []) (rw k at planned) ∙ go (judge_held h) (rw k at planned) where
+  plan_made heights k = text_made _ (height ∷ padded ∷ []) (sym (rw k at planned)) ∙ go (judge_held h) (rw k at planned) where
     height : ℕ
     height = heights.height
 
@@ -160,7 +156,7 @@ module _ (bytes challenges : List ℕ) {after : HeldList} where
   pub reading_made : (n : ℕ) → Leaves (read_all unused_places bytes) (read_answer (Ok n)) after
       → read_text bytes challenges ≡ list_text after challenges
   unfolding read_text
-  reading_made n e = made _ (n ∷ []) e.answer ∙ rw (← e.left)
+  reading_made n e = text_made _ (n ∷ []) (sym e.answer) ∙ rw (← e.left)
 
 -- ---- the whole
 
@@ -224,10 +220,5 @@ module _ (input out : List ℕ) where
 -- ---- buffers
 
 -- a part of a buffer of zeros
-pub take_zeros : (n m : ℕ) → n ≤ m → take n (zeros m) ≡ zeros n
-take_zeros zero m h = refl
-take_zeros (suc n) zero h = absurd (omega arith)
-take_zeros (suc n) (suc m) h = ap (λ (l : List ℕ). 0 ∷ l) (take_zeros n m (omega arith))
-
 pub length_zeros : (n m : ℕ) → n ≤ m → length (take n (zeros m)) ≡ n
-length_zeros n m h = ap length (take_zeros n m h) ∙ length-replicate n 0
+length_zeros n m h = ap length (take-replicate n m 0 h) ∙ length-replicate n 0

@@ -7,7 +7,9 @@ ghost use Rattle.xfield.specs.XFieldElements.{ext_of};
 ghost use Rattle.list.specs.Lent.{held_in};
 ghost use Rattle.sums.specs.RunningSum.{element_words};
 ghost use Rattle.table.specs.Columns.{main_width};
+ghost use Rattle.check_search.specs.Finds.{nonzero_answer};
 ghost use Rattle.check_table.specs.Verdicts.{verdict_answer};
+ghost use Rattle.text.specs.Lines.{verdict_line};
 ghost use Rattle.text.specs.Put.{HasRoom, Adds};
 ghost use Rattle.transcript.specs.Transcript.{max_printed_rows, max_input, challenge_bytes, input_challenges, row_lines, opening_text, verdict_text};
 ghost use Rattle.transcript.specs.Transcript.{checked_text, extended_text, padded_text, calls_text, height_text, list_text, read_text};
@@ -60,6 +62,7 @@ fn put_rows(text: &mut Text, table: &[u64], n: usize)
 }
 
 // Puts the first line, the rows and the sum.
+// `Printable` stays a clause, here and below: what is put uses room up, so no field can keep it; a struct for the table would keep half of the clause.
 fn put_opening(text: &mut Text, head: Head, table: &[u64], sum: XFieldElement)
     requires { Printable text.old table.now head.padded }
     ensures { Adds text.old (opening_text head.entries head.height head.padded table.now (element_words (ext_of sum))) text.new }
@@ -67,6 +70,15 @@ fn put_opening(text: &mut Text, head: Head, table: &[u64], sum: XFieldElement)
     text.put_head(head);
     put_rows(text, table, head.padded as usize);
     text.put_sum(sum);
+}
+
+// Puts the line of a constraint that is not zero.
+pub fn put_nonzero(text: &mut Text, found: Nonzero)
+    requires { HasRoom text.old (length (verdict_line (nonzero_answer found).values)) }
+    ensures { Adds text.old (verdict_line (nonzero_answer found).values) text.new }
+{
+    let group = u64::from(found.group);
+    text.put_nonzero(group, found.row as u64, found.index as u64, found.value);
 }
 
 // Puts the text of a table that was checked: what was found, or that nothing was.
@@ -83,12 +95,7 @@ fn put_result(
     put_opening(text, head, table, sum);
     match found {
         None => text.put_zero(),
-        Some(nonzero) => text.put_nonzero(
-            u64::from(nonzero.group),
-            nonzero.row as u64,
-            nonzero.index as u64,
-            nonzero.value,
-        ),
+        Some(nonzero) => put_nonzero(text, nonzero),
     }
 }
 

@@ -3,14 +3,16 @@
 // but the reading and the writing; where one of those fails, a line on standard error says so (`streams`).
 #![tactic(auto)]
 
-ghost use Rattle.std.specs.Prelude.{◌+◌, ◌*◌, ◌≤◌, length};
+ghost use Rattle.std.specs.Prelude.{◌*◌, ◌≤◌, length};
 ghost use Rattle.table_text.specs.TableText.{max_words, most_rows};
 ghost use Rattle.archive_text.specs.Packing.{max_archive};
 
-use archive_text::{MAX_FAULT_LINE, MAX_ROW_LINE, TABLE_WORDS, Task};
+use archive_text::{MAX_ROW_LINE, TABLE_WORDS, Task};
 use std::env::{Env, FillError};
 use std::io::{Read, Write};
 use streams::Failure;
+use table::{AuxRow, MainRow};
+use table_text::MAX_ANSWER;
 
 // So many rows are printed at a time: their lines fit a buffer of 65,536 bytes.
 const PART_ROWS: usize = 65536 / MAX_ROW_LINE;
@@ -45,32 +47,22 @@ fn pack<R: Read, W: Write, E: Write>(
     Ok(())
 }
 
-// Prints so many rows, from one on, or says on standard error why not.
-fn print_part<R, W: Write, E: Write>(
-    streams: &mut Streams<R, W, E>,
-    table: &[u64],
-    aux: &[u64],
-    from: usize,
-    rows: usize,
-)
-    requires { (10 * (from + rows) ≤ length table.now) × (3 * (from + rows) ≤ length aux.now) × (rows ≤ 240) }
-{
+// Prints the rows of a part, or says on standard error why not.
+fn print_part<R, W: Write, E: Write>(streams: &mut Streams<R, W, E>, table: &[u64], aux: &[u64]) {
+    let rows = (table.len() / MainRow::WIDTH)
+        .min(aux.len() / AuxRow::WIDTH)
+        .min(PART_ROWS);
     let mut out = io::large_buffer();
-    let n = archive_text::put_rows(table, aux, from, rows, &mut out);
+    let n = archive_text::put_rows(table, aux, 0, rows, &mut out);
     streams::write_or_tell(&mut streams.output, &mut streams.errors, &out[..n]);
 }
 
-// Prints the first rows. After a part that could not be written the next is tried: a failure that passes costs no more than its part.
-fn print_rows<R, W: Write, E: Write>(
-    streams: &mut Streams<R, W, E>,
-    table: &[u64],
-    aux: &[u64],
-    rows: usize,
-)
-    requires { (10 * rows ≤ length table.now) × (3 * rows ≤ length aux.now) }
-{
-    for from in (0..rows).step_by(PART_ROWS) {
-        print_part(streams, table, aux, from, PART_ROWS.min(rows - from));
+// Prints rows, each with its sum. After a part that could not be written the next is tried: a failure that passes costs no more than its part.
+fn print_rows<R, W: Write, E: Write>(streams: &mut Streams<R, W, E>, table: &[u64], aux: &[u64]) {
+    let parts = table.chunks(MainRow::WIDTH * PART_ROWS);
+    let sums = aux.chunks(AuxRow::WIDTH * PART_ROWS);
+    for (part, sums) in parts.zip(sums) {
+        print_part(streams, part, sums);
     }
 }
 
@@ -83,10 +75,14 @@ fn unpack_bytes<R, W: Write, E: Write>(
 )
     requires { (10 * most_rows ≤ length table.old) × (3 * most_rows ≤ length aux.old) }
 {
-    let mut line = [0u8; MAX_FAULT_LINE];
+    let mut line = [0u8; MAX_ANSWER];
     match archive_text::unpack(bytes, table, aux, &mut line) {
         Err(n) => streams::write_error(&mut streams.errors, &line[..n]),
-        Ok(rows) => print_rows(streams, table, aux, rows),
+        Ok(rows) => print_rows(
+            streams,
+            &table[..MainRow::WIDTH * rows],
+            &aux[..AuxRow::WIDTH * rows],
+        ),
     }
 }
 

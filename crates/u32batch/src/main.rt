@@ -8,14 +8,12 @@ use batch_text::{MAX_ANSWER, MAX_JOBS, MAX_SETTINGS};
 fn main(rt: HostRuntime) {
     let mut words = [0u64; MAX_SETTINGS + MAX_JOBS];
     let mut out = [0u8; MAX_ANSWER];
-    let start = batch_text::start();
-    if let Err(failure) = table_input::answer(
-        start,
+    table_input::answer_or_tell(
+        batch_text::start(),
         &mut rt.stdin(),
         &mut rt.stdout(),
+        &mut rt.stderr(),
         &mut words,
         &mut out,
-    ) {
-        streams::tell(&mut rt.stderr(), &failure);
-    }
+    );
 }

@@ -4,18 +4,15 @@
 
 use table_text::MAX_ANSWER;
 
-// 16 numbers and ten for each of 16,384 rows.
 fn main(rt: HostRuntime) {
     let mut words = numbers::room();
     let mut out = [0u8; MAX_ANSWER];
-    let start = table_text::start();
-    if let Err(failure) = table_input::answer(
-        start,
+    table_input::answer_or_tell(
+        table_text::start(),
         &mut rt.stdin(),
         &mut rt.stdout(),
+        &mut rt.stderr(),
         &mut words,
         &mut out,
-    ) {
-        streams::tell(&mut rt.stderr(), &failure);
-    }
+    );
 }

@@ -9,9 +9,9 @@ use lib.Dec.{lit<}
 use lib.ListN.{drop, replicate}
 use Rattle.field.specs.Elements.{inv_f, add_f, sub_f, mul_f}
 use Rattle.field.proofs.Powers.{inv_f_computed}
-use Rattle.xfield.specs.Extension.{Ext, ext, zero_x, one_x, add_x, sub_x, mul_x, scale_x, HasInverse, equal_x, is_zero_x}
+use Rattle.xfield.specs.Extension.{Ext, ext, zero_x, one_x, add_x, sub_x, mul_x, scale_x, equal_x, is_zero_x}
 use Rattle.xfield.specs.Inverses.{inv_x}
-use Rattle.xfield.proofs.Inverses.{inv_x_only}
+use Rattle.xfield.proofs.Inverses.{inv_x_only, has_inverse_one}
 use Rattle.xfield.proofs.RingLawsX.{reduce_x_reduced}
 use Rattle.words.specs.Answers.{Answer, done}
 use Rattle.words.specs.Refusals.{first_reason, Fine}
@@ -98,10 +98,6 @@ bits_2 : bits_minus33_inverse 2 ≡ 7140675123644355221
 unfolding bits_minus33_inverse sub_f
 bits_2 = inv_f_computed (sub_f 2 33) refl
 
-one_has_inverse : HasInverse one_x
-unfolding HasInverse mul_x add_f sub_f mul_f
-one_has_inverse = (one_x, refl)
-
 one_inverse : inv_x one_x ≡ one_x
 unfolding mul_x add_f sub_f mul_f
 one_inverse =
@@ -109,7 +105,7 @@ one_inverse =
     (inv_x_only one_x one_x (record {
       below = reduce_x_reduced one_x;
       product = λ h. refl;
-      none = λ f. absurd (f one_has_inverse);
+      none = λ f. absurd (f has_inverse_one);
     }))
 
 -- ---- fill: the section's three rows, and padding below them

@@ -2,18 +2,19 @@
 // else between them.
 #![tactic(auto)]
 
-ghost use Rattle.std.specs.Prelude.{◌≡◌, ◌-◌, ◌*◌, ◌<◌, ◌≤◌, nat_lt, [], length, min, take, drop, replicate, if◌then◌else◌, MatchOption, MatchResult, List, ℕ, nat_eq};
+ghost use Rattle.std.specs.Prelude.{◌≡◌, ◌-◌, ◌<◌, ◌≤◌, length, min, take, drop, replicate, MatchOption, MatchResult, List, ℕ, nat_eq};
 ghost use Rattle.arrayvec.specs.ArrayVec.{array_vec_len};
 ghost use Rattle.std.specs.Iterator.{at_most};
 ghost use Rattle.io.specs.Counts.{IsPrefixLen};
 ghost use Rattle.words.specs.Refusals.{refusal_number};
 ghost use Rattle.vectors.specs.Same.{same_first as same_first_of};
-ghost use Rattle.vectors.specs.Counts.{counted, answered, tallied};
+ghost use Rattle.vectors.specs.Counts.{row, counted, answered, tallied};
 
 mod lists;
 
 use arrayvec::ArrayVec;
 pub use lists::{LentList, LineList};
+use std::fmt::Display;
 use std::io::Read;
 use words::Refusal;
 
@@ -219,7 +220,7 @@ fn change_line(line: &mut [u8]) {
 }
 
 // ---- counts
-// Counts of 32 kinds of calls, 32 places each: at place n the calls that answered number n of document 01, and at the last place those
+// Counts of 32 kinds of calls, a row of 32 places each: at place n the calls that answered number n of document 01, and at the last place those
 // that differ from what was wanted.
 const KINDS: usize = 32;
 
@@ -227,21 +228,20 @@ const PLACES: usize = 32;
 
 const DIFFER: usize = 31;
 
-const COUNTS: usize = KINDS * PLACES;
-
-// A kind is a number. As an enum, by Into<usize>, it would cost an impl of From in four programs, and clauses would speak of some number that it gives.
+// A kind is a number. As an enum, by Into<usize>, it was tried: it proves, and takes 24 lines more in four programs and clauses over some number that the
+// conversion gives.
 #[derive(Clone, Copy)]
 pub struct Counts {
-    pub places: [u64; COUNTS],
+    pub places: [[u64; PLACES]; KINDS],
 }
 
 impl Counts {
     // No call was counted.
     pub fn new() -> Self
-        ensures { result.places ≡ replicate 1024 0 }
+        ensures { result.places ≡ replicate 32 (replicate 32 0) }
     {
         Counts {
-            places: [0; COUNTS],
+            places: [[0; PLACES]; KINDS],
         }
     }
 
@@ -251,8 +251,8 @@ impl Counts {
         ensures { self.new.places ≡ counted self.old.places kind place }
     {
         if kind < KINDS && place < PLACES {
-            let i = kind * PLACES + place;
-            self.places[i] = self.places[i].wrapping_add(1);
+            let count = &mut self.places[kind][place];
+            *count = count.wrapping_add(1);
         }
     }
 
@@ -279,17 +279,13 @@ impl Counts {
 
     // The counts of a kind; none past the last kind.
     pub fn of_kind(&self, kind: usize) -> &[u64]
-        ensures { result.now ≡ (if nat_lt kind 32 then take 32 (drop (32 * kind) self.now.places) else []) }
+        ensures { result.now ≡ row self.now.places kind }
     {
-        if kind < KINDS {
-            &self.places[kind * PLACES..(kind + 1) * PLACES]
-        } else {
-            &[]
-        }
+        self.places.get(kind).map_or(&[], |row| row)
     }
 
     // Writes a kind's counts: the calls that were done, those refused with each number that was met, and those that differ.
-    pub fn print(&self, rt: &impl Print, name: &str, kind: usize) {
+    pub fn print(&self, rt: &impl Print, name: impl Display + Drop, kind: usize) {
         if let [done, refused @ .., differ] = self.of_kind(kind) {
             let _ = print!(rt; "{name} done {done}");
             for (i, count) in refused.iter().enumerate() {

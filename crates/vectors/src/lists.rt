@@ -79,8 +79,7 @@ impl<const K: usize, const M: usize> LentList<K, M> {
     {
         let sizes = take_sizes(numbers);
         let unheld = zeros::<M>(self.holds.len());
-        sizes.capacity == self.sizes.capacity
-            && sizes.used == self.sizes.used
+        sizes == self.sizes
             && numbers.words_are(&self.keys)
             && numbers.words_are(&self.multiplicities)
             && same_first(&self.holds, &unheld, self.holds.len())

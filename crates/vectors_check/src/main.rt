@@ -5,10 +5,11 @@
 
 use check_search::Nonzero;
 use check_table::Verdict;
+use std::fmt;
 use vectors::{Counts, Numbers, number_of};
 
-// What a table is found. Of those that are nonzero the first constraint that is not zero is counted too: of group g at the kind g past the first
-// group's.
+// What a table is found. Of those that are nonzero the first constraint that is not zero is counted too: one of group g at the kind
+// FirstGroup + g.
 #[derive(Clone, Copy)]
 enum Found {
     Zero = 1,
@@ -29,24 +30,20 @@ impl From<Verdict> for Found {
     }
 }
 
-impl Found {
-    fn name(self) -> &'static str {
-        match self {
+impl fmt::Display for Found {
+    fn fmt<W: fmt::Write>(&self, f: &mut fmt::Formatter<W>) -> fmt::Result {
+        f.write_str(match self {
             Found::Zero => "zero",
             Found::Nonzero => "nonzero",
             Found::Refused => "refused",
             Found::FirstGroup => "first nonzero constraints",
-        }
+        })
     }
 }
 
 // What was found as words: 1 where a constraint is not zero, and then group, row, index and three words; else zeros.
 fn words_of(found: Option<Nonzero>) -> [u64; 7] {
-    found.map_or([0; 7], |nonzero| {
-        let [a, b, c] = nonzero.value.words();
-        let group = u64::from(nonzero.group);
-        [1, group, nonzero.row as u64, nonzero.index as u64, a, b, c]
-    })
+    found.map_or([0; 7], Nonzero::words)
 }
 
 // A line: table, aux, challenges, and of the verdict that is wanted document 01's number and seven words; it begins with a 1.
@@ -70,23 +67,21 @@ fn run_line(mut numbers: Numbers<'_>, counts: &mut Counts) {
 // How many constraints were the first nonzero one of some table.
 fn first_constraints(counts: &Counts) -> usize {
     let first = Found::FirstGroup as usize;
-    (first..first + GROUPS)
-        .map(|kind| counts.of_kind(kind).iter().filter(|n| 0 < **n).count())
-        .fold(0, usize::saturating_add)
+    let groups = &counts.places[first..first + GROUPS];
+    groups.iter().flatten().filter(|n| 0 < **n).count()
 }
 
 fn main(rt: HostRuntime) {
     let run = vectors::run_input(rt.stdin(), run_line);
     let kinds = [Found::Zero, Found::Nonzero, Found::Refused];
     for kind in kinds {
-        run.counts.print(&rt, kind.name(), kind as usize);
+        run.counts.print(&rt, kind, kind as usize);
     }
     let firsts = first_constraints(&run.counts);
-    let name = Found::FirstGroup.name();
-    let _ = println!(rt; "{name} {firsts}");
+    let _ = println!(rt; "{} {firsts}", Found::FirstGroup);
     for kind in kinds {
         let _ = print!(rt; "with the last word changed, ");
-        run.changed.print(&rt, kind.name(), kind as usize);
+        run.changed.print(&rt, kind, kind as usize);
     }
     let left = run.left;
     let _ = println!(rt; "bytes not run {left}");

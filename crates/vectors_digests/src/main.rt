@@ -5,6 +5,7 @@
 use check_search::Group;
 use field::BFieldElement;
 use isa::Opcode;
+use std::array;
 use table::{AuxRow, Challenges, MainRow};
 use xfield::XFieldElement;
 
@@ -22,11 +23,7 @@ impl Draws {
     }
 
     fn words<const N: usize>(&mut self) -> [u64; N] {
-        let mut words = [0; N];
-        for word in words.iter_mut() {
-            *word = self.word();
-        }
-        words
+        array::from_fn(|_| self.word())
     }
 }
 

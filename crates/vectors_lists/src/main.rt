@@ -6,6 +6,7 @@
 use c_answers::order_number;
 use isa::{Opcode, U32TableEntry};
 use list_record::Heights;
+use std::fmt;
 use vectors::{Counts, LentList, LineList, Numbers, number_of, same_first};
 use words::Refusal;
 
@@ -20,16 +21,16 @@ enum Call {
     RecordMany,
 }
 
-impl Call {
-    fn name(self) -> &'static str {
-        match self {
+impl fmt::Display for Call {
+    fn fmt<W: fmt::Write>(&self, f: &mut fmt::Formatter<W>) -> fmt::Result {
+        f.write_str(match self {
             Call::Record => "record",
             Call::Compare => "compare",
             Call::Plan => "plan",
             Call::Read => "read",
             Call::Write => "write",
             Call::RecordMany => "record at 2048 and 2049 places",
-        }
+        })
     }
 }
 
@@ -157,13 +158,13 @@ fn main(rt: HostRuntime) {
         Call::Write,
     ];
     for call in calls {
-        found.counts.print(&rt, call.name(), call as usize);
+        found.counts.print(&rt, call, call as usize);
     }
     let many = Call::RecordMany;
-    found.counts.print(&rt, many.name(), many as usize);
+    found.counts.print(&rt, many, many as usize);
     for call in calls {
         let _ = print!(rt; "with the last number changed, ");
-        found.changed.print(&rt, call.name(), call as usize);
+        found.changed.print(&rt, call, call as usize);
     }
     let left = found.left;
     let _ = println!(rt; "bytes not run {left}");

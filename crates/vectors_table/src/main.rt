@@ -4,6 +4,7 @@
 #![tactic(auto)]
 
 use check_table::Verdict;
+use std::fmt;
 use vectors::{Counts, LineList, Numbers, number_of};
 use xfield::XFieldElement;
 
@@ -16,14 +17,14 @@ enum Call {
     Run,
 }
 
-impl Call {
-    fn name(self) -> &'static str {
-        match self {
+impl fmt::Display for Call {
+    fn fmt<W: fmt::Write>(&self, f: &mut fmt::Formatter<W>) -> fmt::Result {
+        f.write_str(match self {
             Call::Fill => "fill",
             Call::Pad => "pad",
             Call::Extend => "extend",
             Call::Run => "run",
-        }
+        })
     }
 }
 
@@ -90,11 +91,11 @@ fn main(rt: HostRuntime) {
     let found = vectors::run_input(rt.stdin(), run_line);
     let calls = [Call::Fill, Call::Pad, Call::Extend, Call::Run];
     for call in calls {
-        found.counts.print(&rt, call.name(), call as usize);
+        found.counts.print(&rt, call, call as usize);
     }
     for call in calls {
         let _ = print!(rt; "with the last number changed, ");
-        found.changed.print(&rt, call.name(), call as usize);
+        found.changed.print(&rt, call, call as usize);
     }
     let left = found.left;
     let _ = println!(rt; "bytes not run {left}");

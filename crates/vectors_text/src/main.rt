@@ -4,6 +4,7 @@
 // later: each must differ.
 #![tactic(auto)]
 
+use std::fmt;
 use transcript::MAX_TEXT;
 use vectors::{Counts, Input, Numbers, number_of, part, part_mut, same_first};
 use words::Refusal;
@@ -16,13 +17,13 @@ enum Kind {
     TextLater,
 }
 
-impl Kind {
-    fn name(self) -> &'static str {
-        match self {
+impl fmt::Display for Kind {
+    fn fmt<W: fmt::Write>(&self, f: &mut fmt::Formatter<W>) -> fmt::Result {
+        f.write_str(match self {
             Kind::Text => "text",
             Kind::OutputShort => "output a byte short",
             Kind::TextLater => "text a byte later",
-        }
+        })
     }
 }
 
@@ -124,7 +125,7 @@ fn main(rt: HostRuntime) {
         input.advance(done);
     }
     for kind in [Kind::Text, Kind::OutputShort, Kind::TextLater] {
-        counts.print(&rt, kind.name(), kind as usize);
+        counts.print(&rt, kind, kind as usize);
     }
     let left = input.bytes.len();
     let _ = println!(rt; "bytes not run {left}");

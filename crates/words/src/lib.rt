@@ -1,7 +1,7 @@
 // What every call shares: the reasons to decline, limits and little-endian numbers.
 #![tactic(auto)]
 
-ghost use Rattle.std.specs.Prelude.{◌≡◌, ◌+◌, ◌≤◌, ◌<◌, length};
+ghost use Rattle.std.specs.Prelude.{◌≡◌, ◌+◌, ◌*◌, ◌≤◌, ◌<◌, length, take, drop};
 ghost use Rattle.std.proofs.lemmas.List.Edits.{sets};
 ghost use Rattle.words.specs.Refusals.{refusal_number};
 ghost use Rattle.words.specs.LittleEndian.{le_at, le};
@@ -94,4 +94,20 @@ pub fn put_le(bytes: &mut [u8], at: usize, k: usize, n: u64)
     let low = k.min(8);
     bytes[at..at + low].copy_from_slice(&n.to_le_bytes()[..low]);
     bytes[at + low..at + k].fill(0);
+}
+
+// Record i of words that hold records of N words each.
+pub fn record_at<const N: usize>(words: &[u64], i: usize) -> [u64; N]
+    requires { N * i + N ≤ length words.now }
+    ensures { result ≡ take N (drop (N * i) words.now) }
+{
+    words[N * i..N * i + N].try_into().unwrap()
+}
+
+// These words become record i.
+pub fn put_record<const N: usize>(words: &mut [u64], i: usize, item: [u64; N])
+    requires { N * i + N ≤ length words.old }
+    ensures { words.new ≡ sets words.old (N * i) item.entry }
+{
+    words[N * i..N * i + N].copy_from_slice(&item);
 }

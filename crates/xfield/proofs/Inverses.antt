@@ -45,7 +45,7 @@ pub norm_x_red : (x : Ext) → norm_x x % p ≡ norm_x x
 unfolding norm_x
 norm_x_red x = ap (λ t. t.a) (mul_x_red x (adjugate_x x))
 
-one≢zero : ◌≢◌ {A = ℕ} 1 0
+pub one≢zero : ◌≢◌ {A = ℕ} 1 0
 one≢zero = omega arith
 
 -- ---- an inverse exists exactly where the norm is not 0

@@ -1,13 +1,12 @@
 -- The laws of extension elements: a commutative ring, the base elements inside it, and the words below p. Each identity is
 -- three identities of the base ring, which its solver decides. Assumes nothing.
-use Prim.Native.Nat.{ℕ, ◌+◌, ◌*◌, ◌-◌, ◌%◌, ◌<◌}
+use Prim.Native.Nat.{ℕ, ◌+◌, ◌*◌, ◌-◌, ◌%◌}
 use mathlib.Core.Path.{◌≡◌, refl, sym, ◌∙◌, ap, ap₂, subst}
 use mathlib.Core.List.{List, [], ◌∷◌}
 use native.Mathlib.Nat.{mod-lt, mod-eq_of_lt}
-use lib.Dec.{lit<}
 use Rattle.field.specs.Elements.{p, add_f, sub_f, mul_f}
 use Rattle.field.proofs.Ring.{Ring, Expr, var, con, ◌:+◌, ◌:*◌, ◌:-◌, Pol, norm, out, solve}
-use Rattle.field.proofs.RingLaws.{𝔹, add_f_lt, sub_f_lt, mul_f_lt, add_f_red, sub_f_red, add_f_of_red, mul_f_of_red, red_add_f, red_mul_f, neg_one}
+use Rattle.field.proofs.RingLaws.{𝔹, p_pos, add_f_lt, sub_f_lt, mul_f_lt, add_f_red, sub_f_red, add_f_of_red, mul_f_of_red, red_add_f, red_mul_f, neg_one}
 use Rattle.xfield.specs.Extension.{Ext, ext, zero_x, one_x, lift_x, reduce_x, add_x, sub_x, mul_x, scale_x, Reduced}
 
 -- ---- the operations on expressions, word by word as specs/Extension.antt has them on numbers
@@ -129,9 +128,6 @@ unfolding sub_x mul_x
 neg_x_is x = solve_x (base_e (con 0) -X X) (base_e (con (p - 1)) *X X) refl (env x x x)
 
 -- ---- words modulo p: an operation reads no more of its arguments, and answers words below p
-p_pos : 0 < p
-p_pos = lit< tt
-
 pub reduce_x_reduced : (x : Ext) → Reduced (reduce_x x)
 reduce_x_reduced x = record { a_below = mod-lt x.a p_pos; b_below = mod-lt x.b p_pos; c_below = mod-lt x.c p_pos }
 

@@ -11,7 +11,6 @@ use mathlib.Core.Logic.{◌≢◌, ◌↔◌, ◌⊎◌, inl, inr}
 use mathlib.Core.List.{[], ◌∷◌}
 use native.Mathlib.Decide.{ℕ_discrete}
 use native.Mathlib.Nat.{mul_assoc, mul_comm, mul-one, pow-succ'}
-use native.Mathlib.Omega.{arith}
 use Rattle.field.specs.Elements.{p, add_f, sub_f, mul_f, pow_f, inv_f}
 use Rattle.field.proofs.Ring.{Expr, var, con, neg, ◌:+◌, ◌:*◌, ◌:-◌, solve, combine}
 use Rattle.field.proofs.RingLaws.{𝔹, neg_one, sub_f_red, mul_f_red}
@@ -21,7 +20,7 @@ use Rattle.field.proofs.Laws.{no_zero_divisors, inv_f_product}
 use Rattle.xfield.specs.Extension.{Ext, ext, zero_x, one_x, reduce_x, sub_x, mul_x, cubic_at, HasInverse, Reduced}
 use Rattle.xfield.proofs.RingLawsX.{ExprX, ◌*X◌, ◌-X◌, X, Y, env, ext_path, reduced_same}
 use Rattle.xfield.specs.Inverses.{norm_x, adjugate_x}
-use Rattle.xfield.proofs.Inverses.{adjugate_e, norm_e, has_inverse_iff, has_inverse_red, has_inverse_zero}
+use Rattle.xfield.proofs.Inverses.{one≢zero, adjugate_e, norm_e, has_inverse_iff, has_inverse_red, has_inverse_zero}
 
 -- the value of a + b·X + c·X² at r
 unfoldable pub value_at : ℕ → Ext → ℕ
@@ -32,9 +31,6 @@ cubic_e r = r :* (r :* r) :- r :+ con 1
 
 abbrev value_e : Expr → ExprX → Expr
 value_e r x = x.a :+ x.b :* r :+ x.c :* (r :* r)
-
-one≢zero : ◌≢◌ {A = ℕ} 1 0
-one≢zero = omega arith
 
 -- x squared k times
 unfoldable pub squared_x : ℕ → Ext → Ext

@@ -147,7 +147,8 @@ impl Mul<BFieldElement> for XFieldElement {
     }
 }
 
-// Written out, and no derive: so `==` is known by one word, `equal_x`, of which `is_zero_x` is made.
+// Written out: so `==` is known by one word, `equal_x`, of which `is_zero_x` is made. A derive, which was tried, proves, but promises `equal_f`
+// of each field; `equal_x` follows from that only where both are open, and above the fields they are shut.
 impl PartialEq for XFieldElement {
     ghost eq = { λ a b. equal_x (ext_of a) (ext_of b) };
 

@@ -1,25 +1,75 @@
--- `archive_text::put_rows` meets its contract. The invariant: the lines of the rows passed have been put.
-use borrow.Author.Rules.{rules}
+-- `archive_text::put_rows` meets its contract: each pair that comes is the row at the number of those before it, and its sum.
+use Prim.Native.Nat.{ℕ, ◌+◌, ◌-◌}
+use mathlib.Core.Path.{◌≡◌, sym, ap, ◌∙◌}
+use mathlib.Core.List.{List}
+use native.Mathlib.Nat.{add-zero}
 use native.Mathlib.Omega.{arith}
-use mathlib.Core.Path.{◌≡◌, ap}
-use lib.ListN.{length}
-use Rattle.text.proofs.Adding.{reached, whole_text}
-use Rattle.archive_text.proofs.Rows.{rows_bound, no_rows, one_row_more}
+use lib.ListN.{length, take, drop, length-append, length-drop}
+use lib.Seq.{take_all}
+use Rattle.text.proofs.Adding.{reached}
+use Rattle.archive_text.proofs.Rows.{pair_lem, left_lem, rows_bound, line_bound, no_rows, one_row_more}
 use Rattle.archive_text.proofs.put_rows.Goals as goal
 
-pub loop-i-init : goal.loop-i-init
-loop-i-init c = no_rows _ _ _ _ (search rules)
+-- the words from place k on
+words_from : (xs : List ℕ) (k : ℕ) → take (length xs - k) (drop k xs) ≡ drop k xs
+words_from xs k = take_all (length xs - k) (drop k xs) (omega (arith, length-drop k xs))
 
-pub put_row-requires : goal.put_row-requires
-put_row-requires c =
-    let b = rows_bound c.args.table.now c.args.aux.now c.args.from c.loop-i.i in
-    let r = reached c.loop-i.invariant in
-    (search rules, search rules, omega (arith, c.requires.2, b, r.len, r.size, c.loop-i-test.true, c.new-text.ensures.empty, ap length c.new-text.ensures.untouched))
+pub loop-row-init : goal.loop-row-init
+loop-row-init c =
+    let words = c.chunks_exact-words.ensures in
+    let sums = c.chunks_exact-sums.ensures in
+    rw (c.into_iter-row-iterator.ensures.into_iter_gives, c.take-row-items.ensures.source, c.zip.ensures.first, c.zip.ensures.second, add-zero c.args.from)
+    (record {
+      count = omega (arith, c.take-row-items.ensures.count);
+      row_size = words.size;
+      sum_size = sums.size;
+      rows_left = words.rest ∙ words_from c.args.table.now _;
+      sums_left = sums.rest ∙ words_from c.args.aux.now _;
+      put = no_rows _ _ _ _ (omega (arith, c.new-text.ensures.empty));
+    })
 
-pub loop-i-preserved : goal.loop-i-preserved
-loop-i-preserved c = one_row_more _ _ _ c.loop-i.i c.loop-i.invariant c.put_row.ensures
+pub put_row-requires-clause-room : goal.put_row-requires-clause-room
+put_row-requires-clause-room c =
+    let t = c.args.table.now in
+    let x = c.args.aux.now in
+    let i = length c.loop-row.yielded in
+    let inv = c.loop-row.invariant in
+    let steps = c.in-Some.ensures.steps in
+    let r = reached inv.put in
+    let e = pair_lem t x (c.args.from + i) _ _ _ _ (sym inv.rows_left ∙ steps.0.0.1.0) (steps.0.0.1.1 ∙ inv.row_size)
+    (sym inv.sums_left ∙ steps.0.1.1.0) (steps.0.1.1.1 ∙ inv.sum_size) in
+    rw e
+    (omega (
+      arith,
+      c.requires.2,
+      inv.count,
+      steps.1,
+      rows_bound t x c.args.from i,
+      line_bound t x (c.args.from + i),
+      r.len,
+      r.size,
+      c.new-text.ensures.empty,
+      ap length c.new-text.ensures.untouched,
+    ))
 
-pub returns : goal.returns
-returns c =
-    let e : c.loop-i.i ≡ c.args.rows = search rules in
-    whole_text (rw e at c.loop-i.invariant) (search rules) (search rules) (search rules) (search rules)
+pub loop-row-preserved : goal.loop-row-preserved
+loop-row-preserved c =
+    let t = c.args.table.now in
+    let x = c.args.aux.now in
+    let i = length c.loop-row.yielded in
+    let inv = c.loop-row.invariant in
+    let steps = c.in-Some.ensures.steps in
+    let comes = sym inv.rows_left ∙ steps.0.0.1.0 in
+    let ten = steps.0.0.1.1 ∙ inv.row_size in
+    let sum_comes = sym inv.sums_left ∙ steps.0.1.1.0 in
+    let three = steps.0.1.1.1 ∙ inv.sum_size in
+    let e = pair_lem t x (c.args.from + i) _ _ _ _ comes ten sum_comes three in
+    rw length-append
+    (record {
+      count = omega (arith, inv.count, steps.1);
+      row_size = steps.0.0.0 ∙ inv.row_size;
+      sum_size = steps.0.1.0 ∙ inv.sum_size;
+      rows_left = left_lem _ _ t _ _ comes ten _ (omega arith);
+      sums_left = left_lem _ _ x _ _ sum_comes three _ (omega arith);
+      put = one_row_more t x c.args.from i inv.put (rw e at c.put_row.ensures);
+    })

@@ -21,8 +21,8 @@ overflow_add-totals-in-loop-batch c =
     let step = tally_step c.loop-batch.invariant c.in-Some.ensures.steps refl in
     search rules
 
-pub batch_padding-requires : goal.batch_padding-requires
-batch_padding-requires c =
+pub padding-requires : goal.padding-requires
+padding-requires c =
     let small = all_small _ _ c.args.each.fine in
     let step = tally_step c.loop-batch.invariant c.in-Some.ensures.steps refl in
     omega arith
@@ -30,11 +30,11 @@ batch_padding-requires c =
 pub overflow_add-totals-in-loop-batch-2 : goal.overflow_add-totals-in-loop-batch-2
 overflow_add-totals-in-loop-batch-2 c =
     let small = all_small _ _ c.args.each.fine in
-    let step = tally_step c.loop-batch.invariant c.in-Some.ensures.steps c.batch_padding.ensures in
+    let step = tally_step c.loop-batch.invariant c.in-Some.ensures.steps c.padding.ensures in
     search rules
 
 pub loop-batch-preserved : goal.loop-batch-preserved
-loop-batch-preserved c = tally_step c.loop-batch.invariant c.in-Some.ensures.steps c.batch_padding.ensures
+loop-batch-preserved c = tally_step c.loop-batch.invariant c.in-Some.ensures.steps c.padding.ensures
 
 pub returns : goal.returns
 returns c = tally_ends c.loop-batch.invariant c.in-None.ensures.steps.0 ∙ sym (trial_fine _ _ c.args.each.fine)

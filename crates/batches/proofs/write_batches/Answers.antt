@@ -1,12 +1,15 @@
 -- `batches::write_batches` meets its contract: a turn writes the first of the batches that are left at the next place. Assumes nothing.
 use mathlib.Core.Path.{◌≡◌, ap, ◌∙◌}
 use mathlib.Core.Logic.{inl}
+use mathlib.Core.List.{List}
+use Prim.Native.Nat.{ℕ, ◌*◌}
 use native.Mathlib.Omega.{arith}
 use lib.ListN.{length}
+use lib.Seq.{sets}
 use Rattle.std.specs.declared.iter.Enumerate.{Enumerate}
 use Rattle.batches.specs.declared.EachBatch.{EachBatch}
 use Rattle.batches.specs.Left.{batches_left}
-use Rattle.batches.proofs.Walking.{all_small, write_starts, words_put, write_step, write_room, write_ends}
+use Rattle.batches.proofs.Walking.{all_small, write_starts, write_step, write_room, write_ends}
 use Rattle.batches.proofs.write_batches.Goals as goal
 
 -- the walk begins with all batches, and place 0
@@ -26,14 +29,14 @@ loop-place-init c =
       write_starts (ap batches_left is) zero,
     )
 
-pub batch_words-requires : goal.batch_words-requires
-batch_words-requires c =
+pub words-requires : goal.words-requires
+words-requires c =
     (write_room c.loop-place.invariant.1 (all_small _ _ c.args.each.fine) c.in-Some.ensures.steps.0 c.in-Some.ensures.steps.1 c.loop-place.auto.results c.requires).1
 
 pub loop-place-preserved : goal.loop-place-preserved
 loop-place-preserved c =
     let room = write_room c.loop-place.invariant.1 (all_small _ _ c.args.each.fine) c.in-Some.ensures.steps.0 c.in-Some.ensures.steps.1 c.loop-place.auto.results c.requires in
-    let put = words_put _ _ _ _ _ c.batch_words.ensures c.copy_from_slice.ensures.after room.0 in
+    let put = c.put_record.ensures ∙ ap (λ (words : List ℕ). sets c.loop-place.results (3 * c.in-Some.place) words) c.words.ensures in
     (c.in-Some.ensures.goes.keeps, write_step c.loop-place.invariant.1 c.in-Some.ensures.steps.0 c.in-Some.ensures.steps.1 c.in-Some.ensures.steps.2 put)
 
 pub returns : goal.returns

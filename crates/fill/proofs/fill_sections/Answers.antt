@@ -6,9 +6,10 @@ use Rattle.words.specs.Refusals.{Fine}
 use Rattle.isa.specs.declared.U32TableEntry.{U32TableEntry}
 use Rattle.isa.specs.Entries.{height}
 use Rattle.isa.proofs.Entries.{height_bound}
-use Rattle.list.specs.Lists.{U32List, u32_list, used, entry_at, multiplicity_at, judge_list}
+use Rattle.list.specs.Lists.{U32List, used, entry_at, multiplicity_at, judge_list}
+use Rattle.list.specs.Lent.{counts_in}
 use Rattle.list.specs.Heights.{list_height}
-use Rattle.list.proofs.JudgedLists.{list_admitted, entry_admissible, height_to, height_none, height_more, list_height_lem}
+use Rattle.list.proofs.JudgedLists.{entry_admissible, height_to, height_none, height_more, list_height_lem}
 use Rattle.table.specs.Columns.{main_width}
 use Rattle.table.specs.RowWords.{table_words}
 use Rattle.fill_sections.specs.Sections.{section, section_words}
@@ -38,44 +39,35 @@ all_words l before after i e f = f ∙ ap (λ (n : ℕ). sets before 0 (table_wo
 
 pub loop-place-init : goal.loop-place-init
 loop-place-init c =
-    let l = u32_list c.args.sizes c.args.keys.now c.args.multiplicities.now in
+    let l = counts_in c.args.places.now.list in
     (refl, sym (height_none l), no_words l c.args.table.now)
-
-pub entry_at-entry-requires : goal.entry_at-entry-requires
-entry_at-entry-requires c = let fits = (list_admitted _ c.requires.multiplicities_value).shape in omega arith
-
-pub offset_bounds-multiplicities-place : goal.offset_bounds-multiplicities-place
-offset_bounds-multiplicities-place c = let fits = (list_admitted _ c.requires.multiplicities_value).shape in omega arith
-
-pub bounds-multiplicities-place : goal.bounds-multiplicities-place
-bounds-multiplicities-place c = let fits = (list_admitted _ c.requires.multiplicities_value).shape in omega arith
 
 pub fill_entry-requires : goal.fill_entry-requires
 fill_entry-requires c =
     let i = c.loop-place.invariant in
-    let f = section_fits _ _ _ _ c.requires.multiplicities_value c.loop-place-test.true (c.entry_at-entry.ensures _ _) i.1 c.requires.multiplicities_in_bounds in
+    let f = section_fits _ _ _ _ c.requires.fine c.loop-place-test.true (c.entry_at-entry.ensures _ _) i.1 c.requires.room in
     record { e_in_bounds = omega (arith, f.0, i.0); e_bound = f.1 }
 
 pub overflow_add-row : goal.overflow_add-row
 overflow_add-row c =
-    let f = section_fits _ _ _ _ c.requires.multiplicities_value c.loop-place-test.true (c.entry_at-entry.ensures _ _) c.loop-place.invariant.1 c.requires.multiplicities_in_bounds in
+    let f = section_fits _ _ _ _ c.requires.fine c.loop-place-test.true (c.entry_at-entry.ensures _ _) c.loop-place.invariant.1 c.requires.room in
     omega (arith, f.0, c.table_height_contribution.ensures.exact)
 
 pub loop-place-preserved : goal.loop-place-preserved
 unfolding multiplicity_at
 loop-place-preserved c =
-    let l = u32_list c.args.sizes c.args.keys.now c.args.multiplicities.now in
+    let l = counts_in c.args.places.now.list in
     let i = c.loop-place.invariant in
-    let x = c.entry_at-entry.ensures c.args.sizes c.args.multiplicities.now in
+    let x = c.entry_at-entry.ensures _ _ in
     let same = ap (λ (y : U32TableEntry). sets c.loop-place.table (main_width * c.loop-place.row) (section_words (section y (multiplicity_at l c.loop-place.place)))) x in (
       c.fill_entry.auto.table ∙ i.0,
       rows_turn l _ i.1 c.table_height_contribution.ensures.exact x,
-      words_turn l c.requires.multiplicities_value _ _ c.args.table.now _ _ c.loop-place-test.true i.1 i.2 (c.fill_entry.ensures.table_after ∙ same),
+      words_turn l c.requires.fine _ _ c.args.table.now _ _ c.loop-place-test.true i.1 i.2 (c.fill_entry.ensures.table_after ∙ same),
     )
 
 pub returns : goal.returns
 returns c =
-    let l = u32_list c.args.sizes c.args.keys.now c.args.multiplicities.now in
+    let l = counts_in c.args.places.now.list in
     let i = c.loop-place.invariant in
     let all : c.loop-place.place ≡ used l = omega arith in
     let d = list_height_lem l in

@@ -1,9 +1,9 @@
 -- `list::find` meets its contract. Each `find` of a range tells of its answer what holds there and of all before it that it does not. Assumes nothing.
-use Rattle.std.proofs.Common.{◌≡◌, ℕ, ◌*◌, ◌-◌, ◌≤◌, ◌<◌, true, false, List, Option, Some, None, MatchOption, sym, subst, ◌∙◌, arith, rules, tests}
+use Rattle.std.proofs.Common.{◌≡◌, ℕ, ◌*◌, ◌-◌, ◌/◌, ◌≤◌, ◌<◌, true, false, List, length, Option, Some, None, MatchOption, sym, subst, ◌∙◌, arith, rules, tests}
 use Rattle.std.specs.Option.{unwrap_or}
 use Rattle.std.proofs.lemmas.Iterator.{first_from_Range}
 use Rattle.isa.specs.declared.U32TableEntry.{U32TableEntry}
-use Rattle.isa.specs.Entries.{lhs}
+use Rattle.isa.specs.Entries.{lhs, entry_width}
 use Rattle.list.specs.Lists.{U32List, u32_list, entry_at}
 use Rattle.list.specs.Keys.{same_key, find_from}
 use Rattle.list.specs.Eights.{EightDiffer, other_word}
@@ -44,7 +44,7 @@ returns-clause-first c = λ s ms.
     let eights = passed _ _ c.unwrap_or-passed.ensures told in
     let l = u32_list s c.args.keys.now ms in
     let asked = first_from_Range _ _ _ _ (λ place. same_key (entry_at l place) c.args.key ≡ true) (λ place. same_key (entry_at l place) c.args.key ≡ false) c.find-2.ensures.ran (λ x q k. search (rules, tests)) (λ x q k. search (rules, tests)) in
-    found l c.args.key c.args.n (8 * c.unwrap_or-passed.result) c.find-2.result (omega (arith, eights.0))
-    (find_eights l c.args.key (λ j. (c.type_inv.keys j).fits) c.unwrap_or-passed.result c.args.n (omega (arith, eights.0))
+    found l c.args.key (length c.args.keys.now / entry_width) (8 * c.unwrap_or-passed.result) c.find-2.result (omega (arith, eights.0))
+    (find_eights l c.args.key (λ j. (c.type_inv.keys j).fits) c.unwrap_or-passed.result (length c.args.keys.now / entry_width) (omega (arith, eights.0))
     (λ k b. with_other _ _ _ c.other_word-other.ensures (eights.1 k b)))
     asked

@@ -5,16 +5,17 @@ use mathlib.Core.List.{List, flat_map}
 use lib.Seq.{sets}
 use Rattle.words.specs.LittleEndian.{le}
 use Rattle.words.specs.Places.{places_from, places}
-use Rattle.list.specs.declared.Sizes.{Sizes}
-use Rattle.list.specs.Lists.{u32_list, multiplicity_at}
+use Rattle.list.specs.Lists.{U32List, used, multiplicity_at}
+use Rattle.list.specs.Lent.{counts_in}
 use Rattle.list_bytes.specs.Packed.{multiplicity_width}
 use Rattle.list_bytes.proofs.put_multiplicities.Given as goal
 
 -- the bytes of the multiplicity at place i
-abbrev pub block : List ℕ → Sizes → List ℕ → ℕ → List ℕ
-block multiplicities s ks i = le multiplicity_width (multiplicity_at (u32_list s ks multiplicities) i)
+abbrev pub block : U32List → ℕ → List ℕ
+block l i = le multiplicity_width (multiplicity_at l i)
 
 abbrev pub invariant-loop-i : goal.invariant-loop-i
 invariant-loop-i l =
-    (s : Sizes) (ks : List ℕ) → sets l.initial.out l.at (flat_map (block l.multiplicities s ks) (places l.n))
-    ≡ sets l.out (l.at + multiplicity_width * l.i) (flat_map (block l.multiplicities s ks) (places_from l.i (l.n - l.i)))
+    let list = counts_in l.fn.used.list in
+    sets l.initial.out l.at (flat_map (block list) (places (used list)))
+    ≡ sets l.out (l.at + multiplicity_width * l.i) (flat_map (block list) (places_from l.i (used list - l.i)))

@@ -8,4 +8,4 @@ use Rattle.list_replay.proofs.replay.Given as goal
 abbrev pub invariant-loop-done : goal.invariant-loop-done
 invariant-loop-done l =
     SameArrays l.initial.list l.list
-    × (replay_from (held_in_mut l.initial.list) l.trace 0 l.steps ≡ replay_from (held_in_mut l.list) l.trace l.done (l.steps - l.done))
+    × (replay_from (held_in_mut l.initial.list) l.trace 0 l.steps ≡ replay_from (held_in_mut l.list) l.trace l.done-counter (l.steps - l.done-counter))

@@ -1,4 +1,5 @@
 -- `list_replay::step_entries` meets its contract. In an arm the opcode is known, so the definition computes to that arm. Assumes nothing.
+use mathlib.Core.Logic.{◌⊎◌, inl, inr}
 use Rattle.std.proofs.Common.{◌≡◌, false, Err, refl, ◌∙◌, eqb}
 use Rattle.std.proofs.lemmas.Bool.{or_parts}
 use Rattle.words.specs.declared.Refusal.{Refusal}
@@ -14,6 +15,13 @@ use Rattle.list_replay.proofs.step_entries.Goals as goal
 in_arm : (s : Step) {i j : Instruction} {answer : Entries} → s.opcode ≡ instruction_number i → i ≡ j
     → answer ≡ step_entries (record { opcode = instruction_number j; first = s.first; second = s.second }) → answer ≡ step_entries s
 in_arm s n q e = e ∙ rw (← q, ← n)
+
+-- of an arm for two
+in_either : (s : Step) {i j k : Instruction} {answer : Entries} → s.opcode ≡ instruction_number i → (i ≡ j) ⊎ (i ≡ k)
+    → answer ≡ step_entries (record { opcode = instruction_number j; first = s.first; second = s.second })
+    → answer ≡ step_entries (record { opcode = instruction_number k; first = s.first; second = s.second }) → answer ≡ step_entries s
+in_either s n (inl q) e f = in_arm s n q e
+in_either s n (inr q) e f = in_arm s n q f
 
 stranger : (s : Step) {k : Refusal} → is_instruction s.opcode ≡ false → k ≡ Stranger → Err k ≡ step_entries s
 unfolding step_entries is_instruction is_opcode
@@ -46,8 +54,4 @@ returns-in-DivMod c = in_arm _ c.in_ok-plain.ensures c.in-DivMod.is c.div_mod_st
 
 pub returns-in-MerkleStep : goal.returns-in-MerkleStep
 unfolding step_entries
-returns-in-MerkleStep c = in_arm _ c.in_ok-plain.ensures c.in-MerkleStep.is c.merkle_step.ensures
-
-pub returns-in-MerkleStepMem : goal.returns-in-MerkleStepMem
-unfolding step_entries
-returns-in-MerkleStepMem c = in_arm _ c.in_ok-plain.ensures c.in-MerkleStepMem.is c.merkle_step-in-MerkleStepMem.ensures
+returns-in-MerkleStep c = in_either _ c.in_ok-plain.ensures c.in-MerkleStep.is c.merkle_step.ensures c.merkle_step.ensures

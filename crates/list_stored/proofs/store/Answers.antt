@@ -19,4 +19,4 @@ returns c =
     stored_done _ _ _ _ _ _
     (store_fine _ _ (sym (c.has_repeats.ensures _ _) ∙ c.if-has_repeats.false) (let e = c.length_with-length.ensures in let h = c.if-out-length.false in omega arith))
     c.length_with-length.ensures
-    c.requires.height_value c.put_list.ensures
+    c.requires c.put_list.ensures

@@ -12,10 +12,10 @@ pub put_zero-requires : goal.put_zero-requires
 put_zero-requires c = omega (arith, c.requires, verdict_bound [])
 
 pub put_nonzero-requires : goal.put_nonzero-requires
-put_nonzero-requires c = nonzero_fits _ _ _ _ _ _ c.requires c.put_name.ensures
+put_nonzero-requires c = nonzero_fits _ _ c.requires c.put_name.ensures
 
 pub returns-in-None : goal.returns-in-None
 returns-in-None c = found_none c.in-None.is c.put_zero.ensures
 
 pub returns-in-Some : goal.returns-in-Some
-returns-in-Some c = found_some _ c.in-Some.is c.from-group.ensures c.put_name.ensures c.put_nonzero.ensures
+returns-in-Some c = found_some _ c.in-Some.is (rw c.from.ensures at c.put_name.ensures) c.put_nonzero.ensures

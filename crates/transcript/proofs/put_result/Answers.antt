@@ -17,4 +17,4 @@ pub returns-in-None : goal.returns-in-None
 returns-in-None c = rw (result_zero _ _ _ _ _ c.in-None.is) (adds_then c.put_opening.ensures c.put_zero.ensures)
 
 pub returns-in-Some : goal.returns-in-Some
-returns-in-Some c = rw (result_nonzero _ _ _ _ _ _ c.in-Some.is, ← c.from.ensures) (adds_then c.put_opening.ensures c.put_nonzero.ensures)
+returns-in-Some c = rw (result_nonzero _ _ _ _ _ _ c.in-Some.is) (adds_then c.put_opening.ensures c.put_nonzero.ensures)

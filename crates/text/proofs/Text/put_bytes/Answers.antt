@@ -1,7 +1,7 @@
 -- `Text::put_bytes` meets its contract: the part behind the text so far is written over.
 use mathlib.Core.Path.{refl}
 use native.Mathlib.Omega.{arith}
-use Rattle.text.proofs.Adding.{part_sets}
+use Rattle.words.proofs.Sets.{part_sets}
 use Rattle.text.proofs.Text.put_bytes.Goals as goal
 
 pub returns : goal.returns

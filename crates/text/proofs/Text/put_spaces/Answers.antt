@@ -5,8 +5,8 @@ use mathlib.Core.List.{List}
 use native.Mathlib.Omega.{arith}
 use lib.ListN.{length, take, drop, replicate, length-drop, length-replicate}
 use lib.Seq.{length-take-le}
+use Rattle.words.proofs.Sets.{part_sets}
 use Rattle.text.specs.Lines.{spaces}
-use Rattle.text.proofs.Adding.{part_sets}
 use Rattle.text.proofs.Text.put_spaces.Goals as goal
 
 module _ (d : List ℕ) (a k n : ℕ) (e : k ≡ n) (room : a + n ≤ length d) where
