@@ -53,13 +53,12 @@ pub fn stored_height(bytes: &[u8]) -> u64
     words::half_at(bytes, N_WIDTH)
 }
 
-// Bytes that hold n entries, each with a multiplicity of so many bytes.
+// Bytes that hold n entries.
 #[derive(Clone, Copy)]
 pub struct StoredList<'a> {
     pub bytes: &'a [u8],
     pub n: usize,
-    pub width: usize,
-    pub ghost whole: { (n ≡ stored_n bytes.now) × (n ≤ max_places) × (width ≡ width_of bytes.now) × (length_with width n ≤ length bytes.now) },
+    pub ghost whole: { (n ≡ stored_n bytes.now) × (n ≤ max_places) × (length_with (width_of bytes.now) n ≤ length bytes.now) },
 }
 
 impl StoredList<'_> {
@@ -77,13 +76,13 @@ impl StoredList<'_> {
         }
     }
 
-    // The multiplicity at place i.
+    // The multiplicity at place i. The number of bytes tells how many each takes.
     fn multiplicity(&self, i: usize) -> u64
         requires { i < self.now.n }
         ensures { result ≡ stored_multiplicity self.now.bytes.now i }
     {
         let at = HEAD_WIDTH + KEY_WIDTH * self.n;
-        if self.width == OLD_MULTIPLICITY_WIDTH {
+        if self.bytes.len() == at + OLD_MULTIPLICITY_WIDTH * self.n {
             words::half_at(self.bytes, at + OLD_MULTIPLICITY_WIDTH * i)
         } else {
             words::word_at(self.bytes, at + MULTIPLICITY_WIDTH * i)

@@ -34,18 +34,10 @@ fn stored_list(bytes: &[u8]) -> Result<StoredList<'_>, Refusal>
         return Err(Refusal::Torn);
     }
     if bytes.len() == length_with(list_bytes::OLD_MULTIPLICITY_WIDTH, n) {
-        return Ok(StoredList {
-            bytes,
-            n,
-            width: list_bytes::OLD_MULTIPLICITY_WIDTH,
-        });
+        return Ok(StoredList { bytes, n });
     }
     if bytes.len() == length_with(list_bytes::MULTIPLICITY_WIDTH, n) {
-        return Ok(StoredList {
-            bytes,
-            n,
-            width: list_bytes::MULTIPLICITY_WIDTH,
-        });
+        return Ok(StoredList { bytes, n });
     }
     Err(Refusal::Torn)
 }

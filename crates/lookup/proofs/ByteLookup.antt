@@ -1,7 +1,7 @@
 -- The stored outputs of the byte lookup: the numbers follow the rule (`stored_is`), and no two bytes share one (`stored_distinct`). One test each,
 -- computed over the whole table: entry i is (i + 1)^3 − 1 modulo 257; and the cube root of one more than it, which is its power 171, is i + 1
 -- (3 · 171 is 1 modulo 256). Assumes nothing.
-use Prim.Native.Nat.{ℕ, ◌+◌, ◌*◌, ◌/◌, ◌%◌, ◌^◌, ◌<◌}
+use Prim.Native.Nat.{ℕ, ◌+◌, ◌*◌, ◌%◌, ◌^◌, ◌<◌}
 use mathlib.Core.Path.{◌≡◌, refl, sym, ap, ◌∙◌}
 use mathlib.Core.Bool.{Bool, true}
 use mathlib.Core.List.{List, [], ◌∷◌}
@@ -73,15 +73,6 @@ pub stored_distinct : NoneShared stored
 stored_distinct i j h k e = let q : i + 1 ≡ j + 1 = sym (root_of_lem i h) ∙ ap root_of e ∙ root_of_lem j k in omega arith
 
 -- ---- the cascade
-
--- the outputs of both bytes of a 16-bit value make the cascade's output
-pub bytes_joined : (v : ℕ) {high low : ℕ} → v < 65536 → high ≡ byte_output (v / 256 % 256) → low ≡ byte_output (v % 256)
-    → high * 256 + low ≡ cascade_output v
-unfolding cascade_output
-bytes_joined v h e f =
-    let within : v / 256 % 256 ≡ v / 256 = omega arith in
-    let high = e ∙ ap byte_output within in
-    omega arith
 
 -- ---- a table that is lent
 

@@ -2,7 +2,7 @@
 // place, and its multiplicities, one a place; beside it stand the multiplicities of the 256 bytes.
 #![tactic(auto)]
 
-ghost use Rattle.std.specs.Prelude.{◌≡◌, not, ◌+◌, ◌≤◌, ◌<◌, [], length, MatchOption, Ok};
+ghost use Rattle.std.specs.Prelude.{◌≡◌, not, ◌+◌, ◌*◌, ◌≤◌, ◌<◌, [], get_or, length, MatchOption, Ok};
 ghost use Rattle.words.specs.Limits.{byte_rows};
 ghost use Rattle.words.specs.Answers.{done};
 ghost use Rattle.words.specs.Outcomes.{Leaves, completed_answer};
@@ -43,12 +43,19 @@ pub fn byte_lookup(byte: u8) -> u8
     BYTE_LOOKUP[usize::from(byte)]
 }
 
-// The output of a 16-bit value: that of its high byte, then that of its low one.
+// The output of a 16-bit value in a table of outputs: that of its high byte, then that of its low one.
+pub fn cascade_lookup_in(outputs: &[u8; 256], value: u16) -> u16
+    ensures { result ≡ 256 * get_or outputs.now (high_byte value) 0 + get_or outputs.now (low_byte value) 0 }
+{
+    let [high, low] = value.to_be_bytes();
+    u16::from_be_bytes([outputs[usize::from(high)], outputs[usize::from(low)]])
+}
+
+// The output of a 16-bit value.
 pub fn cascade_lookup(value: u16) -> u16
     ensures { result ≡ cascade_output value }
 {
-    let [high, low] = value.to_be_bytes();
-    u16::from_be_bytes([byte_lookup(high), byte_lookup(low)])
+    cascade_lookup_in(&BYTE_LOOKUP, value)
 }
 
 // A cascade as it is lent: its sizes; its keys, one 16-bit word a place; its multiplicities, one a place.

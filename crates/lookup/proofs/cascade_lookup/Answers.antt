@@ -1,16 +1,9 @@
--- `lookup::cascade_lookup` meets its contract: the outputs of both bytes make the cascade's. Assumes nothing.
-use mathlib.Core.Path.{ap, ◌∙◌}
-use mathlib.Core.List.{List}
-use Prim.Native.Nat.{ℕ}
+-- `lookup::cascade_lookup` meets its contract: the table that is lent is the byte lookup's. Assumes nothing.
+use mathlib.Core.Path.{◌∙◌}
 use borrow.Author.Rules.{rules}
-use lib.ListN.{get_or}
-use Rattle.lookup.specs.ByteLookup.{byte_output}
-use Rattle.lookup.proofs.ByteLookup.{bytes_joined}
+use Rattle.lookup.proofs.ByteLookup.{stored, stored_is, both_looked_up}
 use Rattle.lookup.proofs.cascade_lookup.Goals as goal
 
 pub returns : goal.returns
-returns c =
-    c.from_be_bytes.ensures
-    ∙ bytes_joined _ (search rules)
-    (c.byte_lookup.ensures.rule ∙ ap (λ (bytes : List ℕ). byte_output (get_or bytes 0 0)) c.to_be_bytes.ensures)
-    (c.byte_lookup-2.ensures.rule ∙ ap (λ (bytes : List ℕ). byte_output (get_or bytes 1 0)) c.to_be_bytes.ensures)
+unfolding stored
+returns c = c.cascade_lookup_in.ensures ∙ both_looked_up stored stored_is _ (search rules)

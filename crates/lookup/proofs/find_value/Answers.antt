@@ -1,5 +1,5 @@
 -- `lookup::find_value` meets its contract. Each `find` of a range tells of its answer what holds there and of all before it that it does not. Assumes nothing.
-use Rattle.std.proofs.Common.{◌≡◌, ◌≢◌, ℕ, ◌*◌, ◌-◌, ◌≤◌, ◌<◌, true, false, List, get_or, Option, Some, None, MatchOption, sym, ◌∙◌, arith, rules, tests}
+use Rattle.std.proofs.Common.{◌≡◌, ◌≢◌, ℕ, ◌*◌, ◌-◌, ◌≤◌, ◌<◌, false, List, get_or, Option, Some, None, MatchOption, sym, ◌∙◌, arith, rules, tests}
 use Rattle.std.specs.Option.{unwrap_or}
 use Rattle.std.proofs.lemmas.Iterator.{first_from_Range}
 use Rattle.lookup.specs.Cascades.{find_from}
