@@ -4,7 +4,7 @@
     tools/gate_costs.py            over `rt ci --anew`, which proves all from nothing
     tools/gate_costs.py COMMAND..  over another command that checks crates, as `rt ci NAME`
 
-Every half second it looks at the provers that run, each by the crate that its command line names: what a prover does in its last half second is not seen. `edits` is how many
+Every half second it looks at the provers that the command has started here, each by the crate that its command line names: what a prover does in its last half second is not seen. `edits` is how many
 must-fail edits the gate tries, with the seconds of their checks, `tests` the seconds of the check of a crate's tests. What the command prints goes to standard error.
 """
 import collections
@@ -25,8 +25,8 @@ def crates():
             yield line.split(":")[0].split()[0]
 
 
-def provers():
-    """The provers that run: crate, what is checked, process and when it began, seconds so far, most kilobytes so far."""
+def provers(pid):
+    """The provers that this command runs here: crate, what is checked, process and when it began, seconds so far, most kilobytes so far."""
     for entry in pathlib.Path("/proc").iterdir():
         if not entry.name.isdigit():
             continue
@@ -39,6 +39,8 @@ def provers():
             folder = os.readlink(entry / "cwd")
         except OSError:
             continue
+        if not folder.startswith(f"{ROOT}/") and f"/rt-edit-{pid}-" not in folder:
+            continue
         kind = "edits" if "/rt-edit" in folder else "tests" if "--test" in words else "proof"
         seconds = (int(fields[11]) + int(fields[12])) / TICKS
         yield words[words.index("--crate-name") + 1], kind, (entry.name, fields[19]), seconds, int(most.group(1)) if most else 0
@@ -49,7 +51,7 @@ def main(command):
     seconds, most = {}, collections.Counter()
     while running.poll() is None:
         at_once = collections.Counter()
-        for crate, kind, process, spent, kilobytes in provers():
+        for crate, kind, process, spent, kilobytes in provers(running.pid):
             seconds[crate, kind, process] = spent
             at_once[crate, kind] += kilobytes
         for key, kilobytes in at_once.items():
