@@ -2,7 +2,7 @@
 """Measures what the check of each crate costs in `rt ci`: processor seconds and memory, as a table for docs/GATE.md.
 
     tools/gate_costs.py            over `rt ci --anew`, which proves all from nothing
-    tools/gate_costs.py COMMAND..  over another command that checks crates, as `rt ci NAME`
+    tools/gate_costs.py COMMAND..  over another command that checks crates, as `rt ci NAME`, or the gate
 
 Every half second it looks at the provers that the command has started here, each by the crate that its command line names: what a prover does in its last half second is not seen. `edits` is how many
 must-fail edits the gate tries, with the seconds of their checks, `tests` the seconds of the check of a crate's tests. What the command prints goes to standard error.
@@ -25,8 +25,14 @@ def crates():
             yield line.split(":")[0].split()[0]
 
 
-def provers(pid):
-    """The provers that this command runs here: crate, what is checked, process and when it began, seconds so far, most kilobytes so far."""
+def of_here(folder):
+    """Whether a prover in this folder is one of ours: it is within the repository, or an edit's copy that an `rt` here has made."""
+    copy = re.search(r"/rt-edit-(\d+)-", folder)
+    return f"{os.readlink(f'/proc/{copy[1]}/cwd') if copy else folder}/".startswith(f"{ROOT}/")
+
+
+def provers():
+    """The provers that run here: crate, what is checked, process and when it began, seconds so far, most kilobytes so far."""
     for entry in pathlib.Path("/proc").iterdir():
         if not entry.name.isdigit():
             continue
@@ -37,9 +43,9 @@ def provers(pid):
             fields = (entry / "stat").read_text().rpartition(")")[2].split()
             most = re.search(r"VmHWM:\s*(\d+)", (entry / "status").read_text())
             folder = os.readlink(entry / "cwd")
+            if not of_here(folder):
+                continue
         except OSError:
-            continue
-        if not folder.startswith(f"{ROOT}/") and f"/rt-edit-{pid}-" not in folder:
             continue
         kind = "edits" if "/rt-edit" in folder else "tests" if "--test" in words else "proof"
         seconds = (int(fields[11]) + int(fields[12])) / TICKS
@@ -51,7 +57,7 @@ def main(command):
     seconds, most = {}, collections.Counter()
     while running.poll() is None:
         at_once = collections.Counter()
-        for crate, kind, process, spent, kilobytes in provers(running.pid):
+        for crate, kind, process, spent, kilobytes in provers():
             seconds[crate, kind, process] = spent
             at_once[crate, kind] += kilobytes
         for key, kilobytes in at_once.items():
