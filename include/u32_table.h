@@ -10,8 +10,8 @@
  * They allocate nothing, keep nothing between calls, use of the C library only memcpy and memset, and may run on many threads at once; calls that share
  * an array which one of them may write are made one after the other.
  *
- * Stack. Four functions copy the entries of a list: u32_table_write takes up to 190 KB of stack (a KB is 1,000 bytes), u32_table_fill 140 KB,
- * u32_table_read 120 KB, u32_table_plan 70 KB. Each of the others takes up to 2 KB.
+ * Stack. Four functions copy the entries of a list: u32_table_write and u32_table_read take up to 100 KB of stack each (a KB is 1,000
+ * bytes), u32_table_fill 80 KB, u32_table_plan 70 KB. Each of the others takes up to 2 KB.
  *
  * Arrays. Each is a pointer and the number of its elements (words of 64 bits, keys of 16 bits, or bytes). The caller sees to what the proof takes for
  * granted: a pointer is aligned, that many elements are there, and no array that a call may write overlaps another array of the same call: a

@@ -126,8 +126,8 @@ int main(void) {
         const char *name;
         void (*call)(void);
         size_t most;
-    } calls[] = {{"record", record, 2000}, {"hold", hold, 2000}, {"confirm", confirm, 2000}, {"drop", drop, 2000}, {"replay", replay, 2000}, {"compare", compare, 2000}, {"plan", plan, 70000}, {"write", write, 190000}, {"read", read, 120000},
-                 {"read, old length", read_old, 120000}, {"fill", fill, 140000}, {"pad", pad, 2000}, {"extend", extend, 2000}, {"check", check, 2000}, {"client_sum", client_sum, 2000}, {"batches", batches, 2000},
+    } calls[] = {{"record", record, 2000}, {"hold", hold, 2000}, {"confirm", confirm, 2000}, {"drop", drop, 2000}, {"replay", replay, 2000}, {"compare", compare, 2000}, {"plan", plan, 70000}, {"write", write, 100000}, {"read", read, 100000},
+                 {"read, old length", read_old, 100000}, {"fill", fill, 80000}, {"pad", pad, 2000}, {"extend", extend, 2000}, {"check", check, 2000}, {"client_sum", client_sum, 2000}, {"batches", batches, 2000},
                  {"look_up", look_up, 2000}, {"byte_lookup", byte_lookup, 2000}, {"cascade_lookup", cascade_lookup, 2000},
                  {"byte_sum", byte_sum, 2000}, {"cascade_sum", cascade_sum, 2000}, {"archive", archive, 2000}, {"restore", restore, 2000}};
     int failed = 0;

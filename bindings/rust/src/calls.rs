@@ -533,7 +533,7 @@ pub fn refused_entry(sizes: Sizes, keys: &[u64], multiplicities: &[u64], holds: 
 ///
 /// Refusals, in this order: shape; torn; list full; then entry by entry stranger, wide, bare log, count full; repeat; tally.
 ///
-/// It takes up to 120 KB of stack: see [the crate's page](crate#stack).
+/// It takes up to 100 KB of stack: see [the crate's page](crate#stack).
 pub fn read(
     bytes: &[u8],
     sizes: &mut Sizes,
@@ -558,7 +558,7 @@ pub fn read(
 /// Refusals, in this order: shape; open hold; then, of keys with a multiplicity, entry by entry stranger, wide, bare log, count full; repeat, among them;
 /// short.
 ///
-/// It takes up to 190 KB of stack: see [the crate's page](crate#stack).
+/// It takes up to 100 KB of stack: see [the crate's page](crate#stack).
 ///
 /// ```
 /// use u32_table::{opcodes::{AND, LT}, stored_bytes, write, Refusal, Sizes};
@@ -579,7 +579,7 @@ pub fn write(sizes: Sizes, keys: &[u64], multiplicities: &[u64], holds: &[u64], 
 ///
 /// Refusals, in this order: shape; open hold; then, of keys with a multiplicity, entry by entry stranger, wide, bare log, count full; short.
 ///
-/// It takes up to 140 KB of stack: see [the crate's page](crate#stack).
+/// It takes up to 80 KB of stack: see [the crate's page](crate#stack).
 ///
 /// ```
 /// use u32_table::{column, fill, opcodes::{AND, LT}, Sizes, COLUMNS};

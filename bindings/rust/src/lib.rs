@@ -51,7 +51,7 @@
 //!
 //! # Stack
 //!
-//! Four calls copy the entries of a list: [`write()`] takes up to 190 KB of stack for it, [`fill`] 140 KB, [`read`] 120 KB and [`plan`] 70 KB. Every other
+//! Four calls copy the entries of a list: [`write()`] takes up to 100 KB of stack for it, [`read`] as much, [`fill`] 80 KB and [`plan`] 70 KB. Every other
 //! call takes 2 KB (a KB is 1,000 bytes), and the methods of [`List`] and [`Table`] little more than the calls that they make. A thread of 224 KiB is
 //! enough for each. Where the stack is too small the program ends, as in all Rust.
 //!

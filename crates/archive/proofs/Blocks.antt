@@ -4,6 +4,7 @@ use Prim.Native.Nat.{ℕ, zero, suc, ◌+◌, ◌*◌, ◌-◌, ◌≤◌, ◌<�
 use mathlib.Core.Path.{◌≡◌, refl, sym, ap, ap₂, ◌∙◌}
 use mathlib.Core.List.{List, [], ◌∷◌, ◌++◌, map, flat_map, append_assoc}
 use native.Mathlib.Nat.{zero-add, add-zero, add-suc, suc-add, mul-suc, mul-zero}
+use native.Mathlib.Numerals.{add-one}
 use native.Mathlib.Omega.{arith}
 use lib.ListN.{length, get_or, set, take, drop, length-drop}
 use lib.Seq.{sets, sets-eq, length-take-le, drop-drop}
@@ -43,12 +44,10 @@ unfolding flat_map
 flat_flat f g [] = refl
 flat_flat f g (i ∷ is) = flat_map-append f (g i) (flat_map g is) ∙ ap (λ (l : List ℕ). flat_map f (g i) ++ l) (flat_flat f g is)
 
--- a turn of a loop that stores a word for each place from `at` on
-pub word_turn : (m : ℕ → ℕ) (at i n v : ℕ) (d : List ℕ) → i < n → v ≡ m i
-    → sets d (at + i) (map m (places_from i (n - i))) ≡ sets (set d (at + i) v) (at + (i + 1)) (map m (places_from (i + 1) (n - (i + 1))))
-word_turn m at i n v d h e =
-    let a : at + (i + 1) ≡ suc (at + i) = omega arith in
-    rw (places_step i n h, e, a)
+-- a turn of a loop that stores a word for each place
+pub word_turn : (m : ℕ → ℕ) (i n v : ℕ) (d : List ℕ) → i < n → v ≡ m i
+    → sets d i (map m (places_from i (n - i))) ≡ sets (set d i v) (i + 1) (map m (places_from (i + 1) (n - (i + 1))))
+word_turn m i n v d h e = rw (places_step i n h, e, add-one)
 
 -- ---- blocks that are one run
 

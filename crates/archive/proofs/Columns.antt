@@ -1,23 +1,25 @@
--- The bytes of columns, column by column and word by word, their number, an archive stored part by part; and all words of an archive below p, word by
--- word. Assumes nothing.
+-- The bytes of columns, column by column and word by word, their number, an archive stored part by part; rows read from a part of an archive; and all
+-- words of an archive below p, word by word. Assumes nothing.
 use Prim.Native.Nat.{ℕ, ◌+◌, ◌*◌, ◌-◌, ◌≤◌, ◌<◌}
 use mathlib.Core.Path.{◌≡◌, sym, ap, ◌∙◌}
 use mathlib.Core.Bool.{true, false}
-use mathlib.Core.List.{List, ◌++◌, flat_map}
+use mathlib.Core.List.{List, ◌++◌, map, flat_map}
+use native.Mathlib.Nat.{zero-add}
 use native.Mathlib.Omega.{arith}
-use lib.ListN.{length, get_or, take, drop}
-use lib.Seq.{sets, length-sets}
+use lib.ListN.{length, get_or, take, drop, length-drop}
+use lib.Seq.{sets, length-sets, take_all}
 use borrow.Rule.Slice.PartMut.{put_mid}
 use Rattle.field.specs.Elements.{p}
 use Rattle.words.specs.LittleEndian.{le}
 use Rattle.words.specs.Places.{places}
-use Rattle.words.proofs.LittleEndian.{length_le}
-use Rattle.words.proofs.Places.{length-map, get_d_map, length_flat}
+use Rattle.words.proofs.LittleEndian.{length_le, le_at_same}
+use Rattle.words.proofs.Places.{length-map, get_d_map, map_cong, flat_cong, length_flat}
 use Rattle.words.proofs.Sets.{sets_then}
 use Rattle.table.specs.Columns.{main_width, aux_width, row_count, all_reduced}
 use Rattle.table.proofs.Rows.{all_reduced_lem}
 use Rattle.table.proofs.Shapes.{word_above}
-use Rattle.archive.specs.Archives.{word_width, archive_length, column, columns, archive_words, archive_bytes, archived_word, archived_rows, archived_words}
+use Rattle.archive.specs.Archives.{word_width, archive_length, column, columns, archive_words, archive_bytes, archived_word, archived_rows, archived_words, rows_from}
+use Rattle.std.proofs.lemmas.List.{get_or-drop}
 use Rattle.std.proofs.lemmas.Grind.{flat_map-append}
 use Rattle.std.proofs.lemmas.List.Folds.{flat_map-map}
 use Rattle.archive.proofs.Blocks.{block_end, part_put, flat_flat}
@@ -100,6 +102,38 @@ module _ (table aux d d1 main_part sums_part : List ℕ) where
       let l2 : length main_put ≡ length d = ap length put ∙ length-sets d1 word_width main ∙ l1 in
       put_archive table aux d d1 main_put _ e1 put
       (part_put sums_at (length main_put - sums_at) main_put sums sums_part e3 (omega arith) (omega arith))
+
+-- ---- rows whose columns stand at the front of a part of the bytes
+
+pub rows_in_front : (s : List ℕ) (w n : ℕ) → rows_from s 0 w n ≡ flat_map (λ i. map (λ c. archived_word s (n * c + i)) (places w)) (places n)
+unfolding rows_from
+rows_in_front s w n = flat_cong _ _ 0 n (λ i a b. map_cong _ _ 0 w (λ c a' b'. ap (archived_word s) (zero-add (n * c + i))))
+
+-- row i, stored at the front of what lies from its place on
+pub row_put : (w n i : ℕ) (row to part : List ℕ) → part ≡ sets (take (length to - w * i) (drop (w * i) to)) 0 row → length row ≡ w
+    → i < n → w * n ≤ length to → put_mid (w * i) (length to - w * i) to part ≡ sets to (w * i) row
+row_put w n i row to part e whole h room =
+    part_put (w * i) (length to - w * i) to row part e
+    (omega (arith, whole, block_end w i n h)) (omega (arith, block_end w i n h))
+
+-- the part from word `from` on
+module _ (s : List ℕ) (from : ℕ) where
+  abbrev from_word : List ℕ
+  from_word = take (length s - word_width * from) (drop (word_width * from) s)
+
+  word_moved : (k : ℕ) → archived_word from_word (0 + k) ≡ archived_word s (from + k)
+  unfolding archived_word
+  word_moved k =
+      let at = word_width * from in
+      let whole : from_word ≡ drop at s = take_all (length s - at) (drop at s) (omega (arith, length-drop at s)) in
+      le_at_same from_word s (word_width * (0 + k)) (word_width * (from + k)) word_width
+      (λ j p.
+      let e : at + (word_width * (0 + k) + j) ≡ word_width * (from + k) + j = omega arith in
+      rw whole (get_or-drop at s (word_width * (0 + k) + j) 0 ∙ ap (λ (i : ℕ). get_or s i 0) e))
+
+  pub rows_moved : (w n : ℕ) → rows_from from_word 0 w n ≡ rows_from s from w n
+  unfolding rows_from
+  rows_moved w n = flat_cong _ _ 0 n (λ i a b. map_cong _ _ 0 w (λ c a' b'. word_moved (n * c + i)))
 
 -- ---- all words of the columns below p, as a loop over the words tells it
 

@@ -116,38 +116,35 @@ pub fn archived_rows(bytes: &[u8]) -> usize
     words::word_at(bytes, 0) as usize
 }
 
-// Rows of so many words each, whose columns stand side by side in the bytes, from word `from` on.
+// Rows of so many words each, whose columns stand side by side at the front of the bytes.
 #[derive(Clone, Copy)]
 struct StoredColumns<'a> {
     bytes: &'a [u8],
-    from: usize,
     width: usize,
     rows: usize,
-    ghost whole: { word_width * (from + rows * width) ≤ length bytes.now },
+    ghost whole: { word_width * (rows * width) ≤ length bytes.now },
 }
 
 impl StoredColumns<'_> {
-    // Stores row i.
+    // Stores row i at the front of `to`.
     #[tactic(auto, using(crate::proofs::Blocks::in_blocks))]
     fn put_row(&self, i: usize, to: &mut [u64])
-        requires { (i < self.now.rows) × (self.now.width * self.now.rows ≤ length to.old) }
-        ensures { to.new ≡ sets to.old (self.now.width * i) (map (λ c. archived_word self.now.bytes.now (self.now.from + (self.now.rows * c + i))) (places self.now.width)) }
+        requires { (i < self.now.rows) × (self.now.width ≤ length to.old) }
+        ensures { to.new ≡ sets to.old 0 (map (λ c. archived_word self.now.bytes.now (self.now.rows * c + i)) (places self.now.width)) }
     {
         for c in 0..self.width {
-            to[self.width * i + c] = words::word_at(
-                self.bytes,
-                WORD_WIDTH * (self.from + (self.rows * c + i)),
-            );
+            to[c] = words::word_at(self.bytes, WORD_WIDTH * (self.rows * c + i));
         }
     }
 
-    // Stores the rows one after the other.
+    // Stores the rows one after the other at the front of `to`.
+    #[tactic(auto, using(crate::proofs::Blocks::block_end))]
     fn put_rows(&self, to: &mut [u64])
         requires { self.now.width * self.now.rows ≤ length to.old }
-        ensures { to.new ≡ sets to.old 0 (rows_from self.now.bytes.now self.now.from self.now.width self.now.rows) }
+        ensures { to.new ≡ sets to.old 0 (rows_from self.now.bytes.now 0 self.now.width self.now.rows) }
     {
         for i in 0..self.rows {
-            self.put_row(i, to);
+            self.put_row(i, &mut to[self.width * i..]);
         }
     }
 }
@@ -161,7 +158,8 @@ struct Archived<'a> {
 }
 
 impl<'a> Archived<'a> {
-    // The bytes with their row count. Reason 10: that is too large, or the bytes are not as many as it says. It is tested before it is multiplied.
+    // The bytes with their row count. Reason 10: the count is too large, or the bytes are not as many as it says. The count is judged before its
+    // length is made: that of a large one would wrap.
     #[tactic(auto, unfolding(crate::specs::Archives::torn))]
     fn judge(bytes: &'a [u8]) -> Result<Archived<'a>, Refusal>
         ensures { MatchResult result (λ archived. (archived.bytes.now ≡ bytes.now) × (torn bytes.now ≡ Fine)) (λ reason. torn bytes.now ≡ Declined reason) }
@@ -212,18 +210,16 @@ fn judge_restoring<'a>(bytes: &'a [u8], table: &[u64], aux: &[u64]) -> Result<Ar
 pub fn restore(bytes: &[u8], table: &mut [u64], aux: &mut [u64]) -> Result<(), Refusal>
     ensures { Leaves (restore_all bytes.now table.old aux.old) (completed_answer result) (table_and_aux table.new aux.new) }
 {
-    let archived = judge_restoring(bytes, table, aux)?;
+    let rows = judge_restoring(bytes, table, aux)?.rows;
     let main = StoredColumns {
-        bytes,
-        from: 1,
+        bytes: &bytes[WORD_WIDTH..],
         width: MainRow::WIDTH,
-        rows: archived.rows,
+        rows,
     };
     let sums = StoredColumns {
-        bytes,
-        from: 1 + archived.rows * MainRow::WIDTH,
+        bytes: &bytes[WORD_WIDTH * (1 + rows * MainRow::WIDTH)..],
         width: AuxRow::WIDTH,
-        rows: archived.rows,
+        rows,
     };
     main.put_rows(table);
     sums.put_rows(aux);

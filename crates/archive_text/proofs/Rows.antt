@@ -1,13 +1,13 @@
 -- Printed rows: the words of a row and of its sum as blocks of the two arrays, how long their lines can be, that parts of them are the whole (rows_join),
--- and a turn of the loop that puts them. Assumes nothing.
+-- that a part is made of what is left of the arrays (rows_of_parts), and a turn of the loop that puts them. Assumes nothing.
 use Prim.Native.Nat.{ℕ, zero, suc, ◌+◌, ◌-◌, ◌*◌, ◌≤◌, ◌<◌}
 use mathlib.Core.Path.{◌≡◌, refl, sym, ap, ap₂, ◌∙◌}
 use mathlib.Core.List.{List, [], ◌∷◌, ◌++◌, append-nil, append_assoc}
-use native.Mathlib.Nat.{add-zero, add-suc}
+use native.Mathlib.Nat.{zero-add, add-zero, add-suc}
 use native.Mathlib.Numerals.{add-one}
 use native.Mathlib.Omega.{arith}
 use lib.ListN.{length, get_or, take, drop, length-append, length-drop}
-use lib.Seq.{take_at, drop_at, drop-drop}
+use lib.Seq.{take_at, drop_at, drop-drop, get_or-drop}
 use borrow.Rule.Slice.PartMut.{put_mid}
 use Rattle.transcript.proofs.Rows.{words_at, part_words, row_words_lem}
 use Rattle.xfield.specs.Extension.{Ext}
@@ -44,6 +44,17 @@ pub words_joined : {ten three row sum : List ℕ} → ten ≡ row → three ≡ 
     → put_mid main_width aux_width (ten ++ (0 ∷ 0 ∷ 0 ∷ [])) three ≡ row ++ sum
 words_joined {row = row} {sum = sum} e f h =
     rw (e, f, take_at row (0 ∷ 0 ∷ 0 ∷ []) main_width h, drop_at row (0 ∷ 0 ∷ 0 ∷ []) main_width h, append-nil) refl
+
+-- words of what is left of an array
+words_left_from : (xs : List ℕ) (a b j : ℕ) → a + b ≡ j → (o n : ℕ) → words_at (drop a xs) b o n ≡ words_at xs j o n
+words_left_from xs a b j e o zero = refl
+words_left_from xs a b j e o (suc n) =
+    let f : a + (b + o) ≡ j + o = omega (arith, e) in
+    ap₂ (λ (x : ℕ) (l : List ℕ). x ∷ l) (get_or-drop a xs (b + o) 0 ∙ ap (λ (k : ℕ). get_or xs k 0) f) (words_left_from xs a b j e (suc o) n)
+
+words_left : (xs : List ℕ) (a b j : ℕ) → a + b ≡ j → (n : ℕ) → get_or (drop a xs) b 0 ∷ words_at (drop a xs) b 1 n ≡ get_or xs j 0 ∷ words_at xs j 1 n
+words_left xs a b j e n =
+    ap₂ (λ (x : ℕ) (l : List ℕ). x ∷ l) (get_or-drop a xs b 0 ∙ ap (λ (k : ℕ). get_or xs k 0) e) (words_left_from xs a b j e 1 n)
 
 -- the block of w words at number i comes, and the words of the others are left
 module _ (w i : ℕ) (xs block rest : List ℕ) (comes : drop (w * i) xs ≡ block ++ rest) (whole : length block ≡ w) where
@@ -84,12 +95,25 @@ module _ (table aux : List ℕ) where
       let e : from + (n + m) ≡ from + n + m = omega arith in
       rw (add-suc n m, e, rows_join from n m, append_assoc)
 
-  -- ---- the loop
-  pub no_rows : (t : Text) (from : ℕ) → HasRoom t 0 → Adds t (printed_rows table aux from 0) t
-  unfolding printed_rows
-  no_rows t from h = adds_none t h
+  -- and each part from what is left of the two arrays
+  row_of_parts : (from i : ℕ) → printed_row (drop (main_width * from) table) (drop (aux_width * from) aux) (0 + i) ≡ printed_row table aux (from + i)
+  unfolding row_at element_at
+  row_of_parts from i =
+      let e : main_width * from + main_width * (0 + i) ≡ main_width * (from + i) = omega arith in
+      let f : aux_width * from + aux_width * (0 + i) ≡ aux_width * (from + i) = omega arith in
+      ap₂ (λ (a b : List ℕ). a ++ b) (words_left table _ _ _ e 9) (words_left aux _ _ _ f 2)
 
-  pub one_row_more : (from i : ℕ) {old mid new : Text} → Adds old (printed_rows table aux from i) mid
-      → Adds mid (row_line (printed_row table aux (from + i))) new → Adds old (printed_rows table aux from (i + 1)) new
+  pub rows_of_parts : (from n : ℕ) → printed_rows (drop (main_width * from) table) (drop (aux_width * from) aux) 0 n ≡ printed_rows table aux from n
   unfolding printed_rows
-  one_row_more from i p q = rw add-one (adds_then p q)
+  rows_of_parts from zero = refl
+  rows_of_parts from (suc n) = ap₂ (λ (lines words : List ℕ). lines ++ row_line words) (rows_of_parts from n) (row_of_parts from n)
+
+  -- ---- the loop
+  pub no_rows : (t : Text) → HasRoom t 0 → Adds t (printed_rows table aux 0 0) t
+  unfolding printed_rows
+  no_rows t h = adds_none t h
+
+  pub one_row_more : (i : ℕ) {old mid new : Text} → Adds old (printed_rows table aux 0 i) mid
+      → Adds mid (row_line (printed_row table aux i)) new → Adds old (printed_rows table aux 0 (i + 1)) new
+  unfolding printed_rows
+  one_row_more i p q = rw (add-one, zero-add i) (adds_then p q)

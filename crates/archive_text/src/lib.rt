@@ -17,7 +17,7 @@ ghost use Rattle.archive_text.specs.Unpacking.{printed_rows, too_many_rows, unpa
 
 use numbers::Reader;
 use table::{AuxRow, MainRow};
-use table_text::{HEAD, MAX_ROWS, ROWS_AT, TableSheet};
+use table_text::{HEAD, Lent, MAX_ROWS, ROWS_AT, TableSheet};
 use text::Text;
 use words::Refusal;
 
@@ -88,13 +88,11 @@ pub fn sums_room() -> [u64; AuxRow::WIDTH * MAX_ROWS as usize]
 pub fn asked(argument: &[u8]) -> Option<Task>
     ensures { Asks argument.now result }
 {
-    if check::same(argument, b"pack") {
-        return Some(Task::Pack);
+    match argument {
+        b"pack" => Some(Task::Pack),
+        b"unpack" => Some(Task::Unpack),
+        _ => None,
     }
-    if check::same(argument, b"unpack") {
-        return Some(Task::Unpack);
-    }
-    None
 }
 
 // Puts the line of a fault at the front of `out`; answers its length.
@@ -134,35 +132,36 @@ fn pack_table(
     Ok(archive::archive_length(table.len() / MainRow::WIDTH))
 }
 
-// The archive for a text that has a table of so many rows.
-// No plainer with `words`, `aux` and `out` as one struct: lent, each `ensures` has to say besides that it still holds the caller's three; moved, it
-// cannot be passed on.
-fn pack_rows(words: &[u64], rows: usize, aux: &mut [u64], out: &mut [u8]) -> Result<usize, Fault>
-    requires { (max_words ≤ length words.now) × (3 * most_rows ≤ length aux.old) × (max_archive ≤ length out.old) × (rows ≤ most_rows) }
-    ensures { IsArchived (pack_taken (Ok rows) words.now aux.old) out.old out.new result }
+// The archive for a text that has a table of so many rows. `out` stands beside what is lent: it is the caller's afterwards, and the `ensures` say of it
+// what it holds.
+fn pack_rows(lent: &mut Lent, rows: usize, out: &mut [u8]) -> Result<usize, Fault>
+    requires { (max_archive ≤ length out.old) × (rows ≤ most_rows) }
+    ensures { IsArchived (pack_taken (Ok rows) lent.old.words.now lent.old.aux.now) out.old out.new result }
 {
     let to = HEAD + MainRow::WIDTH * rows;
     let sums = AuxRow::WIDTH * rows;
+    let words = &*lent.words;
+    let aux = &mut *lent.aux;
     pack_table(&words[..ROWS_AT], &words[HEAD..to], &mut aux[..sums], out)
 }
 
 // The archive for a text that ended here.
 fn pack_ended(
     stage: Result<Reader<TableSheet>, numbers::Fault>,
-    words: &mut [u64],
-    aux: &mut [u64],
+    lent: &mut Lent,
     out: &mut [u8],
 ) -> Result<usize, Fault>
-    requires { (max_words ≤ length words.old) × (3 * most_rows ≤ length aux.old) × (max_archive ≤ length out.old) × Within stage }
-    ensures { IsArchived (pack_ended stage words.old aux.old) out.old out.new result }
+    requires { (max_archive ≤ length out.old) × Within stage }
+    ensures { IsArchived (pack_ended stage lent.old.words.now lent.old.aux.now) out.old out.new result }
 {
-    let ended = numbers::end_number(stage, words);
+    let ended = numbers::end_number(stage, lent.words);
     let rows = table_text::judge_end(ended)?;
-    pack_rows(words, rows, aux, out)
+    pack_rows(lent, rows, out)
 }
 
 // For a text that ended here: the archive at the front of `out`, for standard output, and its length; or the line that says why there is none, for
 // standard error, and its length.
+// `words` and `aux` are no `Lent` here: `u32archive` lends them out of one struct with `out`, and the borrow checker covers no call that does so with a `Lent`.
 pub fn pack(
     stage: Result<Reader<TableSheet>, numbers::Fault>,
     words: &mut [u64],
@@ -172,8 +171,10 @@ pub fn pack(
     requires { (max_words ≤ length words.old) × (3 * most_rows ≤ length aux.old) × (max_archive ≤ length out.old) × Within stage }
     ensures { IsPacked (pack_ended stage words.old aux.old) out.old out.new result }
 {
-    // `map_err` was tried, and its proof did not close: of what a closure changes, `out` here, its caller knows nothing after the call.
-    match pack_ended(stage, words, aux, out) {
+    let mut lent = Lent { words, aux };
+    // `map_err` was tried, also with its closure lent as `&mut`, and `returns` stayed open: it says what it gives, but not that `out` is as the closure left
+    // it, nor that it is untouched where there is no fault.
+    match pack_ended(stage, &mut lent, out) {
         Ok(length) => Ok(length),
         Err(fault) => Err(put_fault(fault, out)),
     }
@@ -234,14 +235,15 @@ fn put_row(text: &mut Text, row: &[u64], sum: &[u64])
     text.put_row(&words);
 }
 
-// Puts the lines of so many rows, from one on, at the front of `out`; answers their length.
-pub fn put_rows(table: &[u64], aux: &[u64], from: usize, rows: usize, out: &mut [u8]) -> usize
-    requires { (10 * (from + rows) ≤ length table.now) × (3 * (from + rows) ≤ length aux.now) × (max_row_line * rows ≤ length out.old) }
-    ensures { Put out.old 0 (printed_rows table.now aux.now from rows) out.new result }
+// Puts the lines of the first rows, so many, at the front of `out`; answers their length. Of parts of a table and of its sums they are the lines of the
+// rows from one on (`rows_of_parts`).
+pub fn put_rows(table: &[u64], aux: &[u64], rows: usize, out: &mut [u8]) -> usize
+    requires { (10 * rows ≤ length table.now) × (3 * rows ≤ length aux.now) × (max_row_line * rows ≤ length out.old) }
+    ensures { Put out.old 0 (printed_rows table.now aux.now 0 rows) out.new result }
 {
     let mut text = Text::new(out);
-    let words = table[MainRow::WIDTH * from..].chunks_exact(MainRow::WIDTH);
-    let sums = aux[AuxRow::WIDTH * from..].chunks_exact(AuxRow::WIDTH);
+    let words = table.chunks_exact(MainRow::WIDTH);
+    let sums = aux.chunks_exact(AuxRow::WIDTH);
     for (row, sum) in words.zip(sums).take(rows) {
         put_row(&mut text, row, sum);
     }

@@ -71,15 +71,6 @@ lines_bound jobs (s ∷ settings) =
 
 -- ---- which line is due
 
-module _ (rows padding : ℕ) where
-  pub share_none : rows + padding ≡ 0 → 0 ≡ share_of rows padding
-  unfolding share_of
-  share_none e = rw (eq-eqb (rows + padding) 0 e)
-
-  pub share_some : (rows + padding ≡ 0 → ⊥) → 1000 * padding / (rows + padding) ≡ share_of rows padding
-  unfolding share_of
-  share_some n = rw (ne_eqb (rows + padding) 0 n)
-
 pub reason_setting : (number : ℕ) → number ≡ 1 → ascii ": a setting is a number of rows from 1 to 131072\n" ≡ reason_text number
 unfolding reason_text
 reason_setting number e = rw (eq-eqb number 1 e)

@@ -78,15 +78,13 @@ pub fn start() -> Reader<BatchSheet>
 
 // ---- the table
 // How many thousandths of all padded rows are padding.
+#[tactic(auto, unfolding(crate::specs::Table::share_of))]
 fn share(totals: Totals) -> u64
     requires { (totals.rows ≤ 137438953472) × (totals.padding ≤ 137438953472) }
     ensures { result ≡ share_of totals.rows totals.padding }
 {
     let padded = totals.rows + totals.padding;
-    if padded == 0 {
-        return 0;
-    }
-    1000 * totals.padding / padded
+    (1000 * totals.padding).checked_div(padded).unwrap_or(0)
 }
 
 // Puts thousandths as a percentage, and ends the line.

@@ -1,4 +1,4 @@
--- What a C function returns and leaves, by the answer that is due: document 01's number, and its values in the first words of the lent array
+-- What a C function returns and leaves, by the answer that is due: the number of the documents, and its values in the first words of the lent array
 -- `answers`. `size` is how many words of `answers` the function states.
 use Rattle.std.specs.Prelude.{ℕ, ◌≤◌, ◌≡◌, Bool, cond, List, eqb, ltb, length, Result, Ok, Err}
 use Rattle.std.proofs.lemmas.List.Edits.{sets}
@@ -8,6 +8,7 @@ use Rattle.words.specs.Answers.{Answer, done, declined}
 use Rattle.words.specs.Refusals.{refusal_number}
 use Rattle.words.specs.declared.Refusal.{Refusal}
 use Rattle.words.specs.declared.Refusal.TheVariants.{Shape}
+use Rattle.list.specs.declared.Sizes.{Sizes}
 use Rattle.list.specs.Holds.{HeldList, held_list}
 
 -- what the result of a call answers: its values, or the reason
@@ -53,6 +54,10 @@ report_due size answers due = cond (too_short size answers) answers (sets answer
 -- another lent array afterwards: as it was where `answers` is too short, else as the call leaves it
 unfoldable pub lent_due : ℕ → List ℕ → List ℕ → List ℕ → List ℕ
 lent_due size answers before after = cond (too_short size answers) before after
+
+-- and the sizes of one that is lent with its sizes
+abbrev pub sizes_due : ℕ → List ℕ → Sizes → Sizes → Sizes
+sizes_due size answers before after = cond (too_short size answers) before after
 
 -- the three arrays of a lent list afterwards
 pub record ListLeft (size : ℕ) (answers : List ℕ) (before due : HeldList) (ks ms hs : List ℕ) : Type 0 where

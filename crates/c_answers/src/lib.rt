@@ -21,23 +21,8 @@ pub fn number(done: Result<(), Refusal>) -> u64
     done.map_or_else(u64::from, |()| 0)
 }
 
-// The number of a call whose values become the first words of `answers`; a refusal writes nothing.
-pub fn stated<const N: usize>(answers: &mut [u64], due: Result<[u64; N], Refusal>) -> u64
-    ensures { Exported N (stated_answer due.entry) answers.old result answers.new }
-{
-    let Some(words) = answers.first_chunk_mut::<N>() else {
-        return SHAPE;
-    };
-    match due {
-        Ok(values) => {
-            *words = values;
-            0
-        }
-        Err(reason) => u64::from(reason),
-    }
-}
-
-// The number of a call that is made only where `answers` has the words that it states: else all that it was lent stays as it was.
+// The number of a call whose words become the first of `answers`; a refusal writes nothing. It is made only where `answers` has the words that it states:
+// else all that it was lent stays as it was.
 // `call` is lent as `&mut`, so that what it has changed is known afterwards. It gives an `A` that is those words, since the bound of a closure can't name `N`.
 pub fn answered<const N: usize, A: Into<[u64; N]>, F: FnMut() -> Result<A, Refusal>>(
     answers: &mut [u64],
@@ -50,7 +35,14 @@ pub fn answered<const N: usize, A: Into<[u64; N]>, F: FnMut() -> Result<A, Refus
     if answers.len() < N {
         return SHAPE;
     }
-    stated::<N>(answers, call().map(A::into))
+    match call() {
+        Ok(given) => {
+            let words: [u64; N] = given.into();
+            answers[..N].copy_from_slice(&words);
+            0
+        }
+        Err(reason) => u64::from(reason),
+    }
 }
 
 // 0 for less, 1 for equal, 2 for greater.

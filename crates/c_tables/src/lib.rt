@@ -1,17 +1,16 @@
-// The calls on tables as the C functions make them: sizes are numbers, the number of document 01 is returned, and further answers go into
-// `answers`. That parameters are flat, groups and refusals numbers and answers words of a lent array is the C interface; the call below takes the
-// arrays of a list as one thing.
+// The calls on tables as the C functions make them: the number of the documents is returned, and further answers go into `answers`. A list is a
+// struct, which u32_table makes out of C's flat parameters; that groups and refusals are numbers and answers words of a lent array is the C interface.
 #![tactic(auto)]
 
 ghost use Rattle.std.specs.Prelude.{◌≡◌};
+ghost use Rattle.list.specs.Lent.{held_in};
 ghost use Rattle.fill.specs.Padding.{pad_all};
-ghost use Rattle.c_answers.specs.Exports.{lent_list};
 ghost use Rattle.c_tables.specs.TableAnswers.{FillAnswers, FillLeaves, ExtendAnswers, ExtendLeaves};
 ghost use Rattle.c_tables.specs.TableAnswers.{CheckAnswers, SaysZeroIff, SaysZeroSound, SaysZeroSums};
 ghost use Rattle.c_tables.specs.TableAnswers.{ClientAnswers};
 
 use c_answers::SHAPE;
-use list::{LentList, Sizes};
+use list::LentList;
 use xfield::XFieldElement;
 
 // How many words of `answers` the check states.
@@ -19,25 +18,11 @@ const CHECK_ANSWERS: usize = 4 + XFieldElement::WIDTH;
 
 // Answers: the height.
 #[tactic(auto, unfolding(c_answers::specs::Exports::lent_due))]
-pub fn fill(
-    capacity: usize,
-    used: usize,
-    keys: &[u64],
-    multiplicities: &[u64],
-    holds: &[u64],
-    table: &mut [u64],
-    answers: &mut [u64],
-) -> u64
-    ensures answers { FillAnswers (lent_list capacity used keys.now multiplicities.now holds.now) table.old answers.old result answers.new }
-    ensures table { FillLeaves (lent_list capacity used keys.now multiplicities.now holds.now) table.old answers.old table.new }
+pub fn fill(list: &LentList, table: &mut [u64], answers: &mut [u64]) -> u64
+    ensures answers { FillAnswers (held_in list.now) table.old answers.old result answers.new }
+    ensures table { FillLeaves (held_in list.now) table.old answers.old table.new }
 {
-    let list = LentList {
-        sizes: Sizes { capacity, used },
-        keys,
-        multiplicities,
-        holds,
-    };
-    c_answers::answered(answers, &mut || Ok([fill::fill(&list, table)?]))
+    c_answers::answered(answers, &mut || Ok([fill::fill(list, table)?]))
 }
 
 // It has no answers besides the number.
@@ -61,21 +46,22 @@ pub fn extend(table: &[u64], aux: &mut [u64], challenges: &[u64], answers: &mut 
 }
 
 // Answers: 0 where every constraint is zero, and nothing more; else 1, group, row, index and the three words of the value.
-// Not handed to `answered`, since a call states words of one number, and this one word or seven.
+// Not handed to `answered`, which writes all words that are stated: here seven are, and at zero one is written.
 pub fn check(table: &[u64], aux: &[u64], challenges: &[u64], answers: &mut [u64]) -> u64
     ensures answers { CheckAnswers table.now aux.now challenges.now answers.old result answers.new }
     ensures zero_iff { SaysZeroIff table.now aux.now challenges.now answers.old result answers.new }
     ensures sound { SaysZeroSound table.now result answers.new }
     ensures sum { SaysZeroSums table.now aux.now challenges.now result answers.new }
 {
-    if answers.len() < CHECK_ANSWERS {
+    let Some(words) = answers.first_chunk_mut::<CHECK_ANSWERS>() else {
         return SHAPE;
-    }
+    };
     match check_table::check(table, aux, challenges) {
-        Ok(None) => c_answers::stated(answers, Ok([0])),
-        Ok(Some(found)) => c_answers::stated(answers, Ok(found.words())),
-        Err(reason) => u64::from(reason),
+        Ok(None) => words[0] = 0,
+        Ok(Some(found)) => *words = found.words(),
+        Err(reason) => return u64::from(reason),
     }
+    0
 }
 
 // Answers: the three words of the client's sum.

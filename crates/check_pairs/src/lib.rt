@@ -47,7 +47,7 @@ ghost use Rattle.check_pairs.specs.Parts.{BaseTransitionOf, RunningSumTransition
 use check_rows::Deselectors;
 use field::BFieldElement;
 use isa::Opcode;
-use table::{AuxRow, Challenges, MainRow};
+use table::{Challenges, RowPair};
 use xfield::XFieldElement;
 
 // How many transition constraints there are.
@@ -79,20 +79,6 @@ struct GeneralTransition {
 struct BitTransition {
     lhs_lsb_is_a_bit: BFieldElement,
     rhs_lsb_is_a_bit: BFieldElement,
-}
-
-fn bit_transition(
-    next_minus_1: BFieldElement,
-    ci_is_pow: BFieldElement,
-    lhs_lsb: BFieldElement,
-    rhs_lsb: BFieldElement,
-) -> BitTransition
-    ensures { BitTransitionOf next_minus_1.0 ci_is_pow.0 lhs_lsb.0 rhs_lsb.0 result }
-{
-    BitTransition {
-        lhs_lsb_is_a_bit: next_minus_1 * ci_is_pow * lhs_lsb * (lhs_lsb - BFieldElement::ONE),
-        rhs_lsb_is_a_bit: next_minus_1 * rhs_lsb * (rhs_lsb - BFieldElement::ONE),
-    }
 }
 
 // Constraints 7 and 8: lt, decided in the lower row.
@@ -139,142 +125,142 @@ struct BaseTransition {
     pow_pop_count: PowPopCountTransition,
 }
 
-// A row and the row below it.
-#[derive(Clone, Copy)]
-struct RowPair {
-    upper: MainRow,
-    lower: MainRow,
+// ---- the parts. Free functions, since methods stand in the crate of their struct and a pair is `table`'s.
+#[tactic(auto, using(crate::proofs::Sums::double, crate::proofs::Sums::double_product), unfolding(air::specs::Constraints::equal_bits))]
+fn least_bits(pair: RowPair) -> LeastBits
+    ensures { LeastBitsOf pair.upper.lhs.0 pair.lower.lhs.0 pair.upper.rhs.0 pair.lower.rhs.0 result }
+{
+    let lhs_lsb = pair.upper.lhs - (pair.lower.lhs + pair.lower.lhs);
+    let rhs_lsb = pair.upper.rhs - (pair.lower.rhs + pair.lower.rhs);
+    let product = lhs_lsb * rhs_lsb;
+    LeastBits {
+        lhs: lhs_lsb,
+        rhs: rhs_lsb,
+        product,
+        equal: BFieldElement::ONE - lhs_lsb - rhs_lsb + (product + product),
+    }
 }
 
-impl RowPair {
-    #[tactic(auto, using(crate::proofs::Sums::double, crate::proofs::Sums::double_product), unfolding(air::specs::Constraints::equal_bits))]
-    fn least_bits(self) -> LeastBits
-        ensures { LeastBitsOf self.upper.lhs.0 self.lower.lhs.0 self.upper.rhs.0 self.lower.rhs.0 result }
-    {
-        let lhs_lsb = self.upper.lhs - (self.lower.lhs + self.lower.lhs);
-        let rhs_lsb = self.upper.rhs - (self.lower.rhs + self.lower.rhs);
-        let product = lhs_lsb * rhs_lsb;
-        LeastBits {
-            lhs: lhs_lsb,
-            rhs: rhs_lsb,
-            product,
-            equal: BFieldElement::ONE - lhs_lsb - rhs_lsb + (product + product),
-        }
+fn general_transition(pair: RowPair) -> GeneralTransition
+    ensures { GeneralTransitionOf (row_of pair.upper) (row_of pair.lower) result }
+{
+    let next_minus_1 = pair.lower.copy_flag - BFieldElement::ONE;
+    let ci_is_pow = pair.upper.ci - BFieldElement(Opcode::Pow as u64);
+    let increase = pair.lower.bits - pair.upper.bits - BFieldElement::ONE;
+    GeneralTransition {
+        next_minus_1,
+        ci_is_pow,
+        lhs_is_0_or_ci_is_pow: pair.lower.copy_flag * pair.upper.lhs * ci_is_pow,
+        rhs_is_0: pair.lower.copy_flag * pair.upper.rhs,
+        ci_stays: next_minus_1 * (pair.lower.ci - pair.upper.ci),
+        bits_increase_for_lhs: next_minus_1 * pair.upper.lhs * ci_is_pow * increase,
+        bits_increase_for_rhs: next_minus_1 * pair.upper.rhs * increase,
     }
+}
 
-    fn general_transition(self) -> GeneralTransition
-        ensures { GeneralTransitionOf (row_of self.upper) (row_of self.lower) result }
-    {
-        let next_minus_1 = self.lower.copy_flag - BFieldElement::ONE;
-        let ci_is_pow = self.upper.ci - BFieldElement(Opcode::Pow as u64);
-        let increase = self.lower.bits - self.upper.bits - BFieldElement::ONE;
-        GeneralTransition {
-            next_minus_1,
-            ci_is_pow,
-            lhs_is_0_or_ci_is_pow: self.lower.copy_flag * self.upper.lhs * ci_is_pow,
-            rhs_is_0: self.lower.copy_flag * self.upper.rhs,
-            ci_stays: next_minus_1 * (self.lower.ci - self.upper.ci),
-            bits_increase_for_lhs: next_minus_1 * self.upper.lhs * ci_is_pow * increase,
-            bits_increase_for_rhs: next_minus_1 * self.upper.rhs * increase,
-        }
+fn bit_transition(general: GeneralTransition, bits: LeastBits) -> BitTransition
+    ensures { BitTransitionOf general.next_minus_1.0 general.ci_is_pow.0 bits.lhs.0 bits.rhs.0 result }
+{
+    let next_minus_1 = general.next_minus_1;
+    BitTransition {
+        lhs_lsb_is_a_bit: next_minus_1
+            * general.ci_is_pow
+            * bits.lhs
+            * (bits.lhs - BFieldElement::ONE),
+        rhs_lsb_is_a_bit: next_minus_1 * bits.rhs * (bits.rhs - BFieldElement::ONE),
     }
+}
 
-    fn decided_lt_transition(self, lt: BFieldElement) -> DecidedLtTransition
-        ensures { DecidedLtTransitionOf lt.0 self.upper.result.0 self.lower.result.0 result }
-    {
-        let res = self.upper.result;
-        let result_next = self.lower.result;
-        let next_minus_2 = result_next - BFieldElement(2);
-        DecidedLtTransition {
-            result_is_0: lt * (result_next - BFieldElement::ONE) * next_minus_2 * res,
-            result_is_1: lt * result_next * next_minus_2 * (res - BFieldElement::ONE),
-        }
+fn decided_lt_transition(pair: RowPair, selected: Deselectors) -> DecidedLtTransition
+    ensures { DecidedLtTransitionOf selected.lt.0 pair.upper.result.0 pair.lower.result.0 result }
+{
+    let res = pair.upper.result;
+    let result_next = pair.lower.result;
+    let next_minus_2 = result_next - BFieldElement(2);
+    DecidedLtTransition {
+        result_is_0: selected.lt * (result_next - BFieldElement::ONE) * next_minus_2 * res,
+        result_is_1: selected.lt * result_next * next_minus_2 * (res - BFieldElement::ONE),
     }
+}
 
-    fn undecided_lt_transition(self, lt: BFieldElement, bits: LeastBits) -> UndecidedLtTransition
-        ensures { UndecidedLtTransitionOf lt.0 self.upper.copy_flag.0 self.upper.result.0 self.lower.result.0 bits result }
-    {
-        let res = self.upper.result;
-        let result_next = self.lower.result;
-        let undecided = lt * result_next * (result_next - BFieldElement::ONE);
-        let equal = undecided * bits.equal;
-        UndecidedLtTransition {
-            bits_0_and_1: undecided
-                * (bits.lhs - BFieldElement::ONE)
-                * bits.rhs
-                * (res - BFieldElement::ONE),
-            bits_1_and_0: undecided * bits.lhs * (bits.rhs - BFieldElement::ONE) * res,
-            equal_bits_with_copy_flag_0: equal
-                * (self.upper.copy_flag - BFieldElement::ONE)
-                * (res - BFieldElement(2)),
-            equal_bits_with_copy_flag_1: equal * self.upper.copy_flag * res,
-        }
+fn undecided_lt_transition(
+    pair: RowPair,
+    selected: Deselectors,
+    bits: LeastBits,
+) -> UndecidedLtTransition
+    ensures { UndecidedLtTransitionOf selected.lt.0 pair.upper.copy_flag.0 pair.upper.result.0 pair.lower.result.0 bits result }
+{
+    let res = pair.upper.result;
+    let result_next = pair.lower.result;
+    let undecided = selected.lt * result_next * (result_next - BFieldElement::ONE);
+    let equal = undecided * bits.equal;
+    UndecidedLtTransition {
+        bits_0_and_1: undecided
+            * (bits.lhs - BFieldElement::ONE)
+            * bits.rhs
+            * (res - BFieldElement::ONE),
+        bits_1_and_0: undecided * bits.lhs * (bits.rhs - BFieldElement::ONE) * res,
+        equal_bits_with_copy_flag_0: equal
+            * (pair.upper.copy_flag - BFieldElement::ONE)
+            * (res - BFieldElement(2)),
+        equal_bits_with_copy_flag_1: equal * pair.upper.copy_flag * res,
     }
+}
 
-    #[tactic(auto, using(crate::proofs::Sums::double), unfolding(table::specs::Layouts::row_of, air::specs::Constraints::one_minus_product_of))]
-    fn and_log_2_floor_transition(
-        self,
-        and: BFieldElement,
-        log_2_floor: BFieldElement,
-        product: BFieldElement,
-    ) -> AndLog2FloorTransition
-        ensures { AndLog2FloorTransitionOf and.0 log_2_floor.0 product.0 (row_of self.upper) (row_of self.lower) result }
-    {
-        let doubled = self.lower.result + self.lower.result;
-        let one_minus_product = BFieldElement::ONE - self.lower.lhs * self.lower.lhs_inv;
-        AndLog2FloorTransition {
-            and_updates: and * (self.upper.result - doubled - product),
-            log_2_floor_is_set: log_2_floor
-                * one_minus_product
-                * self.upper.lhs
-                * (self.upper.result - self.upper.bits),
-            log_2_floor_is_copied: log_2_floor
-                * self.lower.lhs
-                * (self.lower.result - self.upper.result),
-        }
+#[tactic(auto, using(crate::proofs::Sums::double), unfolding(table::specs::Layouts::row_of, air::specs::Constraints::one_minus_product_of))]
+fn and_log_2_floor_transition(
+    pair: RowPair,
+    selected: Deselectors,
+    bits: LeastBits,
+) -> AndLog2FloorTransition
+    ensures { AndLog2FloorTransitionOf selected.and.0 selected.log_2_floor.0 bits.product.0 (row_of pair.upper) (row_of pair.lower) result }
+{
+    let doubled = pair.lower.result + pair.lower.result;
+    let one_minus_product = BFieldElement::ONE - pair.lower.lhs * pair.lower.lhs_inv;
+    AndLog2FloorTransition {
+        and_updates: selected.and * (pair.upper.result - doubled - bits.product),
+        log_2_floor_is_set: selected.log_2_floor
+            * one_minus_product
+            * pair.upper.lhs
+            * (pair.upper.result - pair.upper.bits),
+        log_2_floor_is_copied: selected.log_2_floor
+            * pair.lower.lhs
+            * (pair.lower.result - pair.upper.result),
     }
+}
 
-    #[tactic(auto, unfolding(table::specs::Layouts::row_of))]
-    fn pow_pop_count_transition(
-        self,
-        pow: BFieldElement,
-        pop_count: BFieldElement,
-        bits: LeastBits,
-    ) -> PowPopCountTransition
-        ensures { PowPopCountTransitionOf pow.0 pop_count.0 bits (row_of self.upper) (row_of self.lower) result }
-    {
-        let square = self.lower.result * self.lower.result;
-        PowPopCountTransition {
-            pow_lhs_unchanged: pow * (self.lower.lhs - self.upper.lhs),
-            pow_squares: pow * (bits.rhs - BFieldElement::ONE) * (self.upper.result - square),
-            pow_squares_and_mults: pow * bits.rhs * (self.upper.result - square * self.upper.lhs),
-            pop_count_increases: pop_count * (self.upper.result - self.lower.result - bits.lhs),
-        }
+#[tactic(auto, unfolding(table::specs::Layouts::row_of))]
+fn pow_pop_count_transition(
+    pair: RowPair,
+    selected: Deselectors,
+    bits: LeastBits,
+) -> PowPopCountTransition
+    ensures { PowPopCountTransitionOf selected.pow.0 selected.pop_count.0 bits (row_of pair.upper) (row_of pair.lower) result }
+{
+    let pow = selected.pow;
+    let square = pair.lower.result * pair.lower.result;
+    PowPopCountTransition {
+        pow_lhs_unchanged: pow * (pair.lower.lhs - pair.upper.lhs),
+        pow_squares: pow * (bits.rhs - BFieldElement::ONE) * (pair.upper.result - square),
+        pow_squares_and_mults: pow * bits.rhs * (pair.upper.result - square * pair.upper.lhs),
+        pop_count_increases: selected.pop_count
+            * (pair.upper.result - pair.lower.result - bits.lhs),
     }
+}
 
-    fn base_transition(self) -> BaseTransition
-        ensures { BaseTransitionOf (row_of self.upper) (row_of self.lower) result }
-    {
-        let general = self.general_transition();
-        let bits = self.least_bits();
-        let selected = Deselectors::of(self.lower.ci).times(general.next_minus_1);
-        let bit = bit_transition(general.next_minus_1, general.ci_is_pow, bits.lhs, bits.rhs);
-        let decided_lt = self.decided_lt_transition(selected.lt);
-        let undecided_lt = self.undecided_lt_transition(selected.lt, bits);
-        let and_log_2_floor = self.and_log_2_floor_transition(
-            selected.and,
-            selected.log_2_floor,
-            bits.product,
-        );
-        let pow_pop_count = self.pow_pop_count_transition(selected.pow, selected.pop_count, bits);
-        BaseTransition {
-            general,
-            bit,
-            decided_lt,
-            undecided_lt,
-            and_log_2_floor,
-            pow_pop_count,
-        }
+fn base_transition(pair: RowPair) -> BaseTransition
+    ensures { BaseTransitionOf (row_of pair.upper) (row_of pair.lower) result }
+{
+    let general = general_transition(pair);
+    let bits = least_bits(pair);
+    let selected = Deselectors::of(pair.lower.ci).times(general.next_minus_1);
+    BaseTransition {
+        general,
+        bit: bit_transition(general, bits),
+        decided_lt: decided_lt_transition(pair, selected),
+        undecided_lt: undecided_lt_transition(pair, selected, bits),
+        and_log_2_floor: and_log_2_floor_transition(pair, selected, bits),
+        pow_pop_count: pow_pop_count_transition(pair, selected, bits),
     }
 }
 
@@ -285,21 +271,18 @@ struct RunningSumTransition {
     accumulates: XFieldElement,
 }
 
-fn running_sum_transition(
-    challenges: Challenges,
-    lower: MainRow,
-    sum: XFieldElement,
-    sum_next: XFieldElement,
-) -> RunningSumTransition
-    ensures { RunningSumTransitionOf lower.copy_flag.0 lower.lookup_multiplicity.0 (ext_of sum) (ext_of sum_next) (row_denominator (challenges_in challenges) (row_of lower)) result }
+fn running_sum_transition(challenges: Challenges, pair: RowPair) -> RunningSumTransition
+    ensures { RunningSumTransitionOf pair.lower.copy_flag.0 pair.lower.lookup_multiplicity.0 (sum_of pair.aux) (sum_of pair.aux_next) (row_denominator (challenges_in challenges) (row_of pair.lower)) result }
 {
+    let sum = pair.aux.lookup_server_log_derivative;
+    let sum_next = pair.aux_next.lookup_server_log_derivative;
     let step = sum_next - sum;
-    let stays = step * (lower.copy_flag - BFieldElement::ONE);
-    let accumulates = check_rows::accumulated(challenges, lower, step);
+    let stays = step * (pair.lower.copy_flag - BFieldElement::ONE);
+    let accumulates = check_rows::accumulated(challenges, pair.lower, step);
     RunningSumTransition { stays, accumulates }
 }
 
-// The values in their places.
+// The values in their places. Not by `map` as those of a row are: the last two are no base values.
 fn transition_values(
     base: BaseTransition,
     running_sum: RunningSumTransition,
@@ -334,15 +317,12 @@ fn transition_values(
 
 pub fn transition_constraints(
     challenges: Challenges,
-    upper: MainRow,
-    lower: MainRow,
-    aux: AuxRow,
-    aux_next: AuxRow,
+    pair: RowPair,
 ) -> [XFieldElement; TRANSITION_COUNT]
-    ensures { map ext_of result ≡ transition_constraints (challenges_in challenges) (row_of upper) (row_of lower) (sum_of aux) (sum_of aux_next) }
+    ensures { map ext_of result ≡ transition_constraints (challenges_in challenges) (row_of pair.upper) (row_of pair.lower) (sum_of pair.aux) (sum_of pair.aux_next) }
 {
-    let sum = aux.lookup_server_log_derivative;
-    let sum_next = aux_next.lookup_server_log_derivative;
-    let running_sum = running_sum_transition(challenges, lower, sum, sum_next);
-    transition_values(RowPair { upper, lower }.base_transition(), running_sum)
+    transition_values(
+        base_transition(pair),
+        running_sum_transition(challenges, pair),
+    )
 }

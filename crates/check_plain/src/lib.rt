@@ -14,7 +14,7 @@ ghost use Rattle.check_plain.specs.Plain.{PopCountCarried, Carried, Step};
 
 use field::BFieldElement;
 use isa::Opcode;
-use table::{AuxRow, Challenges, MainRow};
+use table::{Challenges, MainRow, RowPair};
 use xfield::XFieldElement;
 
 // ---- one row
@@ -77,7 +77,7 @@ pub fn is_plain_row(row: MainRow) -> bool
         && is_ended(row)
 }
 
-// ---- two rows
+// ---- two rows. Free functions, since methods stand in the crate of their struct and a pair is `table`'s.
 // The row ends its section.
 #[tactic(auto, using(fill_results::proofs::Results::end_zero))]
 fn is_end(row: MainRow) -> bool
@@ -86,102 +86,92 @@ fn is_end(row: MainRow) -> bool
     fill_results::is_end(row.ci.0, row.lhs.0, row.rhs.0)
 }
 
-// A row and the row below it.
-// `check_pairs` has its own: methods stand in the crate of their struct, so of one in a crate below both each method would be a free function.
-#[derive(Clone, Copy)]
-struct RowPair {
-    upper: MainRow,
-    lower: MainRow,
+// Bits is one more, or the upper row ends its section.
+fn is_counted(pair: RowPair) -> bool
+    ensures { result ≡ true → (pair.lower.bits.0 ≡ pair.upper.bits.0 + 1) ⊎ IsEnd pair.upper.ci.0 pair.upper.lhs.0 pair.upper.rhs.0 }
+{
+    0 < pair.lower.bits.0 && pair.lower.bits.0 - 1 == pair.upper.bits.0 || is_end(pair.upper)
 }
 
-impl RowPair {
-    // Bits is one more, or the upper row ends its section.
-    fn is_counted(self) -> bool
-        ensures { result ≡ true → (self.lower.bits.0 ≡ self.upper.bits.0 + 1) ⊎ IsEnd self.upper.ci.0 self.upper.lhs.0 self.upper.rhs.0 }
-    {
-        0 < self.lower.bits.0 && self.lower.bits.0 - 1 == self.upper.bits.0 || is_end(self.upper)
-    }
-
-    fn is_lt_carried(self) -> bool
-        ensures { result ≡ true → LtCarried self.upper.copy_flag.0 self.upper.lhs.0 self.upper.rhs.0 self.lower.result.0 self.upper.result.0 }
-    {
-        let lhs = self.upper.lhs.0 % 2;
-        let rhs = self.upper.rhs.0 % 2;
-        match self.lower.result.0 {
-            0 => self.upper.result.0 == 0,
-            1 => self.upper.result.0 == 1,
-            2 if lhs < rhs => self.upper.result.0 == 1,
-            2 if rhs < lhs => self.upper.result.0 == 0,
-            2 => is_lt_equal(self.upper),
-            _ => false,
-        }
-    }
-
-    fn is_log_carried(self) -> bool
-        ensures { result ≡ true → LogCarried self.upper.bits.0 self.upper.lhs.0 self.lower.lhs.0 self.lower.lhs_inv.0 self.lower.result.0 self.upper.result.0 }
-    {
-        if self.upper.lhs.0 == 0 {
-            true
-        } else if self.lower.lhs.0 == 0 {
-            self.upper.result.0 == self.upper.bits.0
-        } else {
-            (self.lower.lhs * self.lower.lhs_inv).0 == 1
-                && self.lower.result.0 == self.upper.result.0
-        }
-    }
-
-    fn is_pow_carried(self) -> bool
-        ensures { result ≡ true → PowCarried self.upper.lhs.0 self.upper.rhs.0 self.lower.result.0 self.upper.result.0 }
-    {
-        let square = self.lower.result * self.lower.result;
-        if self.upper.rhs.0 % 2 == 0 {
-            self.upper.result.0 == square.0
-        } else {
-            self.upper.result.0 == (square * self.upper.lhs).0
-        }
-    }
-
-    fn is_and_carried(self) -> bool
-        ensures { result ≡ true → AndCarried self.upper.lhs.0 self.upper.rhs.0 self.lower.result.0 self.upper.result.0 }
-    {
-        self.upper.result.0 / 2 == self.lower.result.0
-            && self.upper.result.0 % 2 == self.upper.lhs.0 % 2 * (self.upper.rhs.0 % 2)
-    }
-
-    fn is_pop_count_carried(self) -> bool
-        ensures { result ≡ true → PopCountCarried self.upper.lhs.0 self.lower.result.0 self.upper.result.0 }
-    {
-        self.upper.result.0 == (self.lower.result + BFieldElement(self.upper.lhs.0 % 2)).0
-    }
-
-    #[tactic(auto, unfolding(table::specs::Layouts::row_of))]
-    fn is_carried(self) -> bool
-        ensures { result ≡ true → Carried (row_of self.upper) (row_of self.lower) }
-    {
-        let is_halved = self.lower.lhs.0 == self.upper.lhs.0 / 2;
-        match Opcode::try_from(self.upper.ci.0) {
-            Ok(Opcode::Split) => is_halved,
-            Ok(Opcode::Lt) => is_halved && self.is_lt_carried(),
-            Ok(Opcode::And) => is_halved && self.is_and_carried(),
-            Ok(Opcode::Log2Floor) => is_halved && self.is_log_carried(),
-            Ok(Opcode::Pow) => self.lower.lhs.0 == self.upper.lhs.0 && self.is_pow_carried(),
-            Ok(Opcode::PopCount) => is_halved && self.is_pop_count_carried(),
-            Err(_) => false,
-        }
-    }
-
-    #[tactic(auto, unfolding(table::specs::Layouts::row_of))]
-    fn is_step(self) -> bool
-        ensures { result ≡ true → Step (row_of self.upper) (row_of self.lower) }
-    {
-        self.lower.copy_flag.0 == 0
-            && self.lower.ci.0 == self.upper.ci.0
-            && self.is_counted()
-            && self.lower.rhs.0 == self.upper.rhs.0 / 2
-            && self.is_carried()
+fn is_lt_carried(pair: RowPair) -> bool
+    ensures { result ≡ true → LtCarried pair.upper.copy_flag.0 pair.upper.lhs.0 pair.upper.rhs.0 pair.lower.result.0 pair.upper.result.0 }
+{
+    let lhs = pair.upper.lhs.0 % 2;
+    let rhs = pair.upper.rhs.0 % 2;
+    match pair.lower.result.0 {
+        0 => pair.upper.result.0 == 0,
+        1 => pair.upper.result.0 == 1,
+        2 if lhs < rhs => pair.upper.result.0 == 1,
+        2 if rhs < lhs => pair.upper.result.0 == 0,
+        2 => is_lt_equal(pair.upper),
+        _ => false,
     }
 }
 
+fn is_log_carried(pair: RowPair) -> bool
+    ensures { result ≡ true → LogCarried pair.upper.bits.0 pair.upper.lhs.0 pair.lower.lhs.0 pair.lower.lhs_inv.0 pair.lower.result.0 pair.upper.result.0 }
+{
+    if pair.upper.lhs.0 == 0 {
+        true
+    } else if pair.lower.lhs.0 == 0 {
+        pair.upper.result.0 == pair.upper.bits.0
+    } else {
+        (pair.lower.lhs * pair.lower.lhs_inv).0 == 1 && pair.lower.result.0 == pair.upper.result.0
+    }
+}
+
+fn is_pow_carried(pair: RowPair) -> bool
+    ensures { result ≡ true → PowCarried pair.upper.lhs.0 pair.upper.rhs.0 pair.lower.result.0 pair.upper.result.0 }
+{
+    let square = pair.lower.result * pair.lower.result;
+    if pair.upper.rhs.0 % 2 == 0 {
+        pair.upper.result.0 == square.0
+    } else {
+        pair.upper.result.0 == (square * pair.upper.lhs).0
+    }
+}
+
+fn is_and_carried(pair: RowPair) -> bool
+    ensures { result ≡ true → AndCarried pair.upper.lhs.0 pair.upper.rhs.0 pair.lower.result.0 pair.upper.result.0 }
+{
+    pair.upper.result.0 / 2 == pair.lower.result.0
+        && pair.upper.result.0 % 2 == pair.upper.lhs.0 % 2 * (pair.upper.rhs.0 % 2)
+}
+
+fn is_pop_count_carried(pair: RowPair) -> bool
+    ensures { result ≡ true → PopCountCarried pair.upper.lhs.0 pair.lower.result.0 pair.upper.result.0 }
+{
+    pair.upper.result.0 == (pair.lower.result + BFieldElement(pair.upper.lhs.0 % 2)).0
+}
+
+#[tactic(auto, unfolding(table::specs::Layouts::row_of))]
+fn is_carried(pair: RowPair) -> bool
+    ensures { result ≡ true → Carried (row_of pair.upper) (row_of pair.lower) }
+{
+    let is_halved = pair.lower.lhs.0 == pair.upper.lhs.0 / 2;
+    match Opcode::try_from(pair.upper.ci.0) {
+        Ok(Opcode::Split) => is_halved,
+        Ok(Opcode::Lt) => is_halved && is_lt_carried(pair),
+        Ok(Opcode::And) => is_halved && is_and_carried(pair),
+        Ok(Opcode::Log2Floor) => is_halved && is_log_carried(pair),
+        Ok(Opcode::Pow) => pair.lower.lhs.0 == pair.upper.lhs.0 && is_pow_carried(pair),
+        Ok(Opcode::PopCount) => is_halved && is_pop_count_carried(pair),
+        Err(_) => false,
+    }
+}
+
+#[tactic(auto, unfolding(table::specs::Layouts::row_of))]
+fn is_step(pair: RowPair) -> bool
+    ensures { result ≡ true → Step (row_of pair.upper) (row_of pair.lower) }
+{
+    pair.lower.copy_flag.0 == 0
+        && pair.lower.ci.0 == pair.upper.ci.0
+        && is_counted(pair)
+        && pair.lower.rhs.0 == pair.upper.rhs.0 / 2
+        && is_carried(pair)
+}
+
+// Word by word, since `==` is equality modulo p: another relation, which would reduce six words.
 fn same_words(a: XFieldElement, b: XFieldElement) -> bool
     ensures { result ≡ true → ext_of a ≡ ext_of b }
 {
@@ -189,32 +179,23 @@ fn same_words(a: XFieldElement, b: XFieldElement) -> bool
 }
 
 #[tactic(auto, using(crate::proofs::Sums::scaled_zero), unfolding(table::specs::Layouts::row_of, air::specs::Constraints::if_copy_flag_next_is_1_then_running_sum_log_derivative_accumulates_next_row))]
-fn accumulates(
-    challenges: Challenges,
-    lower: MainRow,
-    sum: XFieldElement,
-    sum_next: XFieldElement,
-) -> bool
-    ensures { result ≡ true → if_copy_flag_next_is_1_then_running_sum_log_derivative_accumulates_next_row (challenges_in challenges) (row_of lower) (ext_of sum) (ext_of sum_next) ≡ zero_x }
+fn accumulates(challenges: Challenges, pair: RowPair) -> bool
+    ensures { result ≡ true → if_copy_flag_next_is_1_then_running_sum_log_derivative_accumulates_next_row (challenges_in challenges) (row_of pair.lower) (sum_of pair.aux) (sum_of pair.aux_next) ≡ zero_x }
 {
-    check_rows::accumulated(challenges, lower, sum_next - sum).is_zero()
+    let sum = pair.aux.lookup_server_log_derivative;
+    let sum_next = pair.aux_next.lookup_server_log_derivative;
+    check_rows::accumulated(challenges, pair.lower, sum_next - sum).is_zero()
 }
 
 // Yes: every transition constraint of the two rows is zero.
-pub fn is_plain_pair(
-    challenges: Challenges,
-    upper: MainRow,
-    lower: MainRow,
-    aux: AuxRow,
-    aux_next: AuxRow,
-) -> bool
-    ensures { result ≡ true → AllZero (transition_constraints (challenges_in challenges) (row_of upper) (row_of lower) (sum_of aux) (sum_of aux_next)) }
+pub fn is_plain_pair(challenges: Challenges, pair: RowPair) -> bool
+    ensures { result ≡ true → AllZero (transition_constraints (challenges_in challenges) (row_of pair.upper) (row_of pair.lower) (sum_of pair.aux) (sum_of pair.aux_next)) }
 {
-    let sum = aux.lookup_server_log_derivative;
-    let sum_next = aux_next.lookup_server_log_derivative;
-    if lower.copy_flag.0 == 1 {
-        is_end(upper) && accumulates(challenges, lower, sum, sum_next)
+    let sum = pair.aux.lookup_server_log_derivative;
+    let sum_next = pair.aux_next.lookup_server_log_derivative;
+    if pair.lower.copy_flag.0 == 1 {
+        is_end(pair.upper) && accumulates(challenges, pair)
     } else {
-        RowPair { upper, lower }.is_step() && same_words(sum, sum_next)
+        is_step(pair) && same_words(sum, sum_next)
     }
 }

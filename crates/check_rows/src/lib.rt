@@ -198,29 +198,27 @@ struct ResultConsistency {
     if_log_2_floor_on_0_then_vm_crashes: BFieldElement,
 }
 
-// `lhs` and `rhs` are 1 minus LHS, or RHS, times its inverse.
-#[tactic(auto, using(crate::proofs::Products::shared_products))]
+#[tactic(auto, using(crate::proofs::Products::shared_products), unfolding(table::specs::Layouts::row_of))]
 fn result_consistency(
-    deselectors: Deselectors,
-    copy_flag: BFieldElement,
-    copy_flag_minus_1: BFieldElement,
-    lhs: BFieldElement,
-    rhs: BFieldElement,
-    res: BFieldElement,
+    row: MainRow,
+    flag: FlagConsistency,
+    lhs: InverseConsistency,
+    rhs: InverseConsistency,
 ) -> ResultConsistency
-    ensures { ResultConsistencyOf deselectors copy_flag.0 copy_flag_minus_1.0 lhs.0 rhs.0 res.0 result }
+    ensures { ResultConsistencyOf (row_of row) flag.copy_flag_minus_1.0 lhs.one_minus_product.0 rhs.one_minus_product.0 result }
 {
-    let both = lhs * rhs;
+    let deselectors = Deselectors::of(row.ci);
+    let both = lhs.one_minus_product * rhs.one_minus_product;
     let lt = deselectors.lt * both;
-    let log_2_floor = deselectors.log_2_floor * lhs;
+    let log_2_floor = deselectors.log_2_floor * lhs.one_minus_product;
     ResultConsistency {
-        for_lt_with_copy_flag_0: lt * copy_flag_minus_1 * (res - BFieldElement(2)),
-        for_lt_with_copy_flag_1: lt * copy_flag * res,
-        for_and: deselectors.and * both * res,
-        for_pow: deselectors.pow * rhs * (res - BFieldElement::ONE),
-        for_log_2_floor: log_2_floor * copy_flag_minus_1 * (res + BFieldElement::ONE),
-        for_pop_count: deselectors.pop_count * lhs * res,
-        if_log_2_floor_on_0_then_vm_crashes: log_2_floor * copy_flag,
+        for_lt_with_copy_flag_0: lt * flag.copy_flag_minus_1 * (row.result - BFieldElement(2)),
+        for_lt_with_copy_flag_1: lt * row.copy_flag * row.result,
+        for_and: deselectors.and * both * row.result,
+        for_pow: deselectors.pow * rhs.one_minus_product * (row.result - BFieldElement::ONE),
+        for_log_2_floor: log_2_floor * flag.copy_flag_minus_1 * (row.result + BFieldElement::ONE),
+        for_pop_count: deselectors.pop_count * lhs.one_minus_product * row.result,
+        if_log_2_floor_on_0_then_vm_crashes: log_2_floor * row.copy_flag,
     }
 }
 
@@ -230,31 +228,25 @@ pub fn consistency_constraints(row: MainRow) -> [XFieldElement; CONSISTENCY_COUN
     let flag = flag_consistency(row);
     let lhs = inverse_consistency(row.lhs, row.lhs_inv);
     let rhs = inverse_consistency(row.rhs, row.rhs_inv);
-    let result = result_consistency(
-        Deselectors::of(row.ci),
-        row.copy_flag,
-        flag.copy_flag_minus_1,
-        lhs.one_minus_product,
-        rhs.one_minus_product,
-        row.result,
-    );
+    let result = result_consistency(row, flag, lhs, rhs);
     [
-        base_value(flag.copy_flag_is_bit),
-        base_value(flag.copy_flag_is_0_or_bits_is_0),
-        base_value(flag.bits_minus_33_inv_is_inverse_of_bits_minus_33),
-        base_value(lhs.inv_is_0_or_the_inverse),
-        base_value(lhs.value_is_0_or_inverse_is_the_inverse),
-        base_value(rhs.inv_is_0_or_the_inverse),
-        base_value(rhs.value_is_0_or_inverse_is_the_inverse),
-        base_value(result.for_lt_with_copy_flag_0),
-        base_value(result.for_lt_with_copy_flag_1),
-        base_value(result.for_and),
-        base_value(result.for_pow),
-        base_value(result.for_log_2_floor),
-        base_value(result.for_pop_count),
-        base_value(result.if_log_2_floor_on_0_then_vm_crashes),
-        base_value(flag.if_copy_flag_is_0_then_lookup_multiplicity_is_0),
+        flag.copy_flag_is_bit,
+        flag.copy_flag_is_0_or_bits_is_0,
+        flag.bits_minus_33_inv_is_inverse_of_bits_minus_33,
+        lhs.inv_is_0_or_the_inverse,
+        lhs.value_is_0_or_inverse_is_the_inverse,
+        rhs.inv_is_0_or_the_inverse,
+        rhs.value_is_0_or_inverse_is_the_inverse,
+        result.for_lt_with_copy_flag_0,
+        result.for_lt_with_copy_flag_1,
+        result.for_and,
+        result.for_pow,
+        result.for_log_2_floor,
+        result.for_pop_count,
+        result.if_log_2_floor_on_0_then_vm_crashes,
+        flag.if_copy_flag_is_0_then_lookup_multiplicity_is_0,
     ]
+    .map(base_value)
 }
 
 // ---- terminal
@@ -262,5 +254,5 @@ pub fn terminal_constraints(row: MainRow) -> [XFieldElement; TERMINAL_COUNT]
     ensures { map ext_of result ≡ terminal_constraints (row_of row) }
 {
     let lhs_is_0_or_ci_is_pow = row.lhs * (row.ci - BFieldElement(Opcode::Pow as u64));
-    [base_value(lhs_is_0_or_ci_is_pow), base_value(row.rhs)]
+    [lhs_is_0_or_ci_is_pow, row.rhs].map(base_value)
 }

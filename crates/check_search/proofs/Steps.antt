@@ -1,6 +1,6 @@
--- The steps of a search over the values of a row, as the loops take them: the values are those that an evaluator answered, and a test
--- was made of one of them. Assumes nothing.
-use Prim.Native.Nat.{ℕ, zero, suc, ◌+◌, ◌-◌, ◌≤◌, ◌<◌}
+-- The steps of a search over the values of a row: the values are those that an evaluator answered, and a test was made of one of them.
+-- Assumes nothing.
+use Prim.Native.Nat.{ℕ, zero, suc, ◌+◌, ◌≤◌, ◌<◌}
 use native.Mathlib.Numerals.{add-one}
 use mathlib.Core.Path.{◌≡◌, refl, sym, ap, ◌∙◌}
 use mathlib.Core.Bool.{Bool, true, false, not}
@@ -16,7 +16,7 @@ use Rattle.table.specs.Columns.{row_at, aux_at}
 use Rattle.table.specs.Challenges.{Challenges, challenges_of}
 use Rattle.air.specs.Constraints.{initial_constraints}
 use Rattle.air.specs.Check.{nonzero, first_in, first_in_rows, initial_at}
-use Rattle.air.proofs.Scan.{value_zero, value_nonzero, values_done, row_next}
+use Rattle.air.proofs.Scan.{value_zero, value_nonzero, values_done}
 use Rattle.std.specs.Prelude.{Option, Some, None, is_some}
 use Rattle.check_search.specs.declared.Nonzero.{Nonzero}
 use Rattle.check_search.specs.Finds.{followed_by}
@@ -80,7 +80,7 @@ module _ (group row : ℕ) (values : List XFieldElement) (next : Answer) where
       passed_before k (omega arith) (λ i l. z i (omega arith))
       ∙ rw (add-one k) at (passed group row values k next (omega arith) (sym (z k (omega arith))) refl)
 
--- ---- row by row
+-- ---- one search before another
 pub some_found : (o : Option Nonzero) → is_some o ≡ true → (a b : Answer) → followed_by o a ≡ followed_by o b
 some_found None e a b = absurd (let z : ◌≡◌ {A = ℕ} 0 1 = cc in omega arith)
 some_found (Some n) e a b = refl
@@ -88,19 +88,3 @@ some_found (Some n) e a b = refl
 pub none_found : (o : Option Nonzero) → is_some o ≡ false → (a : Answer) → followed_by o a ≡ a
 none_found None e a = refl
 none_found (Some n) e a = absurd (let z : ◌≡◌ {A = ℕ} 0 1 = cc in omega arith)
-
--- what was found among the values of a row, before whatever follows
-module _ (constraints : ℕ → List Ext) (group row limit : ℕ) {vs : List Ext} (o : Option Nonzero) (e : vs ≡ constraints row)
-    (s : (next : Answer) → followed_by o next ≡ first_in group row 0 vs next) (h : row < limit) (next : Answer) where
-  from_here : first_in_rows constraints group row (limit - row) next ≡ followed_by o (first_in_rows constraints group (row + 1) (limit - (row + 1)) next)
-  from_here =
-      row_next constraints group row limit next h
-      ∙ ap (λ (l : List Ext). first_in group row 0 l (first_in_rows constraints group (row + 1) (limit - (row + 1)) next)) (sym e)
-      ∙ sym (s (first_in_rows constraints group (row + 1) (limit - (row + 1)) next))
-
-  pub row_found : {t : Bool} → t ≡ is_some o → t ≡ true → first_in_rows constraints group row (limit - row) next ≡ followed_by o next
-  row_found f t = from_here ∙ some_found o (sym f ∙ t) _ next
-
-  pub row_passed : {t : Bool} → t ≡ is_some o → t ≡ false
-      → first_in_rows constraints group row (limit - row) next ≡ first_in_rows constraints group (row + 1) (limit - (row + 1)) next
-  row_passed f t = from_here ∙ none_found o (sym f ∙ t) _

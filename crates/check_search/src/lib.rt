@@ -1,5 +1,6 @@
-// The searches of the four groups of constraints, each for the first value that is not zero. Their contracts say what is found before
-// any answer `next` that another search would give.
+// The searches of the four groups of constraints, each for the first value that is not zero. Consistency asks nothing of the table, initial and
+// terminal that it has a row (`Rows`), transition also for its sums and the challenges (`JudgedTable`). A contract says what is answered
+// before any answer `next` that another search would give: what was found, or `next` where nothing was.
 #![tactic(auto)]
 
 ghost use Rattle.std.specs.Prelude.{◌≡◌, ◌∷◌, ◌*◌, ◌-◌, ◌≤◌, ◌<◌, length, map};
@@ -7,12 +8,12 @@ ghost use Rattle.words.specs.Answers.{Answer};
 ghost use Rattle.xfield.specs.XFieldElements.{ext_of};
 ghost use Rattle.table.specs.Columns.{aux_width, row_at, row_count};
 ghost use Rattle.table.specs.Challenges.{challenge_words};
-ghost use Rattle.table.specs.Layouts.{sum_of, challenges_in};
-ghost use Rattle.air.specs.Constraints.{initial_constraints};
+ghost use Rattle.table.specs.Layouts.{row_of, sum_of, challenges_in};
+ghost use Rattle.air.specs.Constraints.{initial_constraints, consistency_constraints, transition_constraints};
 ghost use Rattle.air.specs.Check.{consistency_at, transition_at, terminal_at, first_in, first_in_rows};
 ghost use Rattle.check_search.specs.Finds.{group_number, nonzero_answer, followed_by};
 
-use table::{AuxRow, Challenges, MainRow};
+use table::{AuxRow, Challenges, MainRow, RowPair};
 use xfield::XFieldElement;
 
 // The groups of constraints, in the order in which they are searched: 0 to 3.
@@ -68,24 +69,33 @@ fn first_nonzero(group: Group, row: usize, values: &[XFieldElement]) -> Option<N
     })
 }
 
-// Consistency, row by row. A row that gets a yes from the test is passed; any other is evaluated. It asks nothing of the table.
-// A loop: with `find_map`, which was tried, the goal stayed open, since its clause `ran` does not tell that the answer that stopped it is `Some`.
+// Consistency of a row. One that gets a yes from the test is passed; any other is evaluated.
+fn row_consistency(row: usize, current: MainRow) -> Option<Nonzero>
+    ensures { (next : Answer) → followed_by result next ≡ first_in 1 row 0 (consistency_constraints (row_of current)) next }
+{
+    if check_plain::is_plain_row(current) {
+        return None;
+    }
+    let values = check_rows::consistency_constraints(current);
+    first_nonzero(Group::Consistency, row, &values)
+}
+
+// Consistency, row by row.
 pub fn consistency(table: &[u64]) -> Option<Nonzero>
     ensures { (next : Answer) → followed_by result next ≡ first_in_rows (consistency_at table.now) 1 0 (row_count table.now) next }
 {
-    let rows = table.len() / MainRow::WIDTH;
-    for row in 0..rows {
-        let current = MainRow::at(table, row);
-        if check_plain::is_plain_row(current) {
-            continue;
-        }
-        let values = check_rows::consistency_constraints(current);
-        let found = first_nonzero(Group::Consistency, row, &values);
-        if found.is_some() {
-            return found;
-        }
+    (0..table.len() / MainRow::WIDTH).find_map(|row| row_consistency(row, MainRow::at(table, row)))
+}
+
+// Transition of a pair, which is passed or evaluated as a row is.
+fn pair_transition(weights: Challenges, upper: usize, pair: RowPair) -> Option<Nonzero>
+    ensures { (next : Answer) → followed_by result next ≡ first_in 2 upper 0 (transition_constraints (challenges_in weights) (row_of pair.upper) (row_of pair.lower) (sum_of pair.aux) (sum_of pair.aux_next)) next }
+{
+    if check_plain::is_plain_pair(weights, pair) {
+        return None;
     }
-    None
+    let values = check_pairs::transition_constraints(weights, pair);
+    first_nonzero(Group::Transition, upper, &values)
 }
 
 // A table that has a row.
@@ -114,7 +124,9 @@ impl Rows<'_> {
     }
 }
 
-// Such a table with the sum of each row, and the challenges. Apart from `Rows`, so that no search asks for arrays that it does not read.
+// Such a table with the sum of each row, and the challenges. Apart from `Rows`, so that no search asks for arrays that it does not read. The
+// challenges are words, as the definitions of the search have them (`transition_at`, `first_nonzero`): with `Challenges` each clause would also
+// have to say which words they are made of.
 #[derive(Clone, Copy)]
 pub struct JudgedTable<'a> {
     pub rows: Rows<'a>,
@@ -125,7 +137,7 @@ pub struct JudgedTable<'a> {
 }
 
 impl JudgedTable<'_> {
-    // Transition, pair by pair. A pair that gets a yes from the test is passed; any other is evaluated. A loop, as for `consistency`.
+    // Transition, pair by pair.
     pub fn transition(&self) -> Option<Nonzero>
         ensures { (next : Answer) → followed_by result next ≡ first_in_rows (transition_at self.now.rows.table.now self.now.aux.now self.now.challenges.now) 2 0 (row_count self.now.rows.table.now - 1) next }
     {
@@ -133,20 +145,6 @@ impl JudgedTable<'_> {
         let aux = self.aux;
         let weights = Challenges::from_words(self.challenges);
         let pairs = table.len() / MainRow::WIDTH - 1;
-        for upper in 0..pairs {
-            let row = MainRow::at(table, upper);
-            let row_next = MainRow::at(table, upper + 1);
-            let sum = AuxRow::at(aux, upper);
-            let sum_next = AuxRow::at(aux, upper + 1);
-            if check_plain::is_plain_pair(weights, row, row_next, sum, sum_next) {
-                continue;
-            }
-            let values = check_pairs::transition_constraints(weights, row, row_next, sum, sum_next);
-            let found = first_nonzero(Group::Transition, upper, &values);
-            if found.is_some() {
-                return found;
-            }
-        }
-        None
+        (0..pairs).find_map(|upper| pair_transition(weights, upper, RowPair::at(table, aux, upper)))
     }
 }

@@ -1,13 +1,13 @@
--- One search after another: what a search finds is the answer, and after nothing the next decides. Assumes nothing.
-use Rattle.std.proofs.Common.{◌≡◌, refl, ℕ, List, Bool, true, false, sym, ◌∙◌, Option, Some, None}
+-- What the check answers: the reason against it, or what its search found; and what follows the search of a group. Assumes nothing.
+use Rattle.std.proofs.Common.{◌≡◌, refl, ℕ, ◌-◌, List, sym, ◌∙◌, Option, Some, None}
+use Rattle.table.specs.Columns.{row_count}
 use Rattle.words.specs.Answers.{Answer}
 use Rattle.words.specs.declared.Refusal.{Refusal}
 use Rattle.words.specs.Refusals.{Fine, Declined}
-use Rattle.air.specs.Check.{zero_answer, check_reason, first_nonzero, check_all}
+use Rattle.air.specs.Check.{zero_answer, transition_at, terminal_at, first_in_rows, check_reason, first_nonzero, check_all}
 use Rattle.check_search.specs.declared.Nonzero.{Nonzero}
-use Rattle.std.specs.Prelude.{Ok, Err, is_some}
+use Rattle.std.specs.Prelude.{Ok, Err}
 use Rattle.check_search.specs.Finds.{followed_by}
-use Rattle.check_search.proofs.Steps.{some_found, none_found}
 use Rattle.check_table.specs.Verdicts.{verdict_answer}
 
 module _ (table aux challenges : List ℕ) where
@@ -23,13 +23,9 @@ module _ (table aux challenges : List ℕ) where
     is_verdict None = refl
     is_verdict (Some n) = refl
 
--- ---- search after search: each answers `found` of what would follow it
-module _ (o : Option Nonzero) {t : Bool} (e : t ≡ is_some o) {found : Answer → Answer}
-    (s : (next : Answer) → followed_by o next ≡ found next) where
-  -- what it found is the answer, whatever follows
-  pub search_hit : t ≡ true → (next : Answer) → followed_by o zero_answer ≡ found next
-  search_hit h next = some_found o (sym e ∙ h) zero_answer next ∙ s next
+  -- ---- what follows the search of a group
+  abbrev pub after_transition : Answer
+  after_transition = first_in_rows (terminal_at table) 3 (row_count table - 1) 1 zero_answer
 
-  -- it found nothing: what follows is the answer
-  pub search_passed : t ≡ false → (next : Answer) → next ≡ found next
-  search_passed h next = sym (none_found o (sym e ∙ h) next) ∙ s next
+  abbrev pub after_consistency : Answer
+  after_consistency = first_in_rows (transition_at table aux challenges) 2 0 (row_count table - 1) after_transition

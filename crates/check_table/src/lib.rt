@@ -44,22 +44,21 @@ fn judge<'a>(
 
 // ---- the search, group by group
 // The first constraint that is not zero: initial, consistency, transition, terminal.
-// A chain of `or_else` was tried, and its proof did not close: nothing is told of a closure that captures a struct with a reference in it.
+// As a chain of `or_else` its goal `returns` stays open: of a closure that is taken by value and captures a struct with references in it, as
+// `|| judged.transition()` does, nothing is told. Of one that captures a slice, as `|| check_search::consistency(table)`, all is.
 fn search(judged: &JudgedTable) -> Option<Nonzero>
     ensures { followed_by result zero_answer ≡ first_nonzero judged.now.rows.table.now judged.now.aux.now judged.now.challenges.now }
 {
     let weights = Challenges::from_words(judged.challenges);
-    let initial = judged.rows.initial(weights, AuxRow::at(judged.aux, 0));
-    if initial.is_some() {
-        return initial;
+    let sum = AuxRow::at(judged.aux, 0);
+    if let Some(found) = judged.rows.initial(weights, sum) {
+        return Some(found);
     }
-    let consistency = check_search::consistency(judged.rows.table);
-    if consistency.is_some() {
-        return consistency;
+    if let Some(found) = check_search::consistency(judged.rows.table) {
+        return Some(found);
     }
-    let transition = judged.transition();
-    if transition.is_some() {
-        return transition;
+    if let Some(found) = judged.transition() {
+        return Some(found);
     }
     judged.rows.terminal()
 }

@@ -24,7 +24,6 @@ use Rattle.table.specs.Layouts.{challenges_in}
 use Rattle.sums.specs.RunningSum.{denominators_ok, ZeroDenominator}
 use Rattle.sums.specs.LookupSum.{summand_of, summand_at, lookup_sum}
 use Rattle.table.proofs.Rows.{Shaped, shaped, all_reduced_lem}
-use Rattle.table.proofs.Tens.{ten_more}
 use Rattle.sums.proofs.ZeroDenominators.{denominators_more}
 use Rattle.sums.proofs.ZeroDenominators as Denominators
 use Rattle.sums.specs.RunningSum.{element_words, sum_words}
@@ -129,8 +128,5 @@ pub judged_lent : (rows : Rows) (table challenges : List ℕ) → rows.table.now
     → denominators_ok (summands_in rows) (row_count rows.table.now) ≡ denominators_ok (summand_at table challenges) (row_count table)
 judged_lent rows table challenges t c = λ j. denominators_ok (lent rows table challenges t c j) (row_count (t j))
 
--- what one pass over the rows is proved by
-pub ruleset row_steps = (ten_more, all_reduced_lem, denominators_more)
-
--- and the judgement
+-- what the judgement is proved by
 pub ruleset judge_steps = (no_shape, unreduced, flat, fine, shaped, judged_lent)

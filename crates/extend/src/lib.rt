@@ -4,7 +4,7 @@
 
 ghost use Rattle.std.specs.Prelude.{◌≡◌, true, ◌*◌, ◌≤◌, length};
 ghost use Rattle.words.specs.Outcomes.{Leaves};
-ghost use Rattle.table.specs.Columns.{row_at, row_count, all_reduced};
+ghost use Rattle.table.specs.Columns.{main_width, row_at, row_count, all_reduced};
 ghost use Rattle.table.specs.Challenges.{challenge_words, challenges_of};
 ghost use Rattle.table.specs.Layouts.{challenges_in};
 ghost use Rattle.sums.specs.RunningSum.{denominators_ok};
@@ -61,27 +61,20 @@ impl Summands for Rows<'_> {
 }
 
 // Yes: every word of the table is below p, and nothing is against the denominator of any row. One pass over the rows for both.
-#[tactic(auto, using(crate::proofs::Reasons::row_steps), unfolding(sums::specs::RunningSum::denominators_ok))]
 fn are_rows_fine(rows: &Rows) -> bool
+    requires { length rows.now.table.now ≡ main_width * row_count rows.now.table.now }
     ensures { result ≡ true → (all_reduced rows.now.table.now ≡ true) × (denominators_ok (summands_in rows.now) (row_count rows.now.table.now) ≡ true) }
 {
-    if rows.table.len() % MainRow::WIDTH != 0 {
-        return false;
-    }
     // By number, as `Summands` gives a row's share: with the rows as chunks, each would be cut and read by number both.
-    for row in 0..rows.count() {
-        if !table::are_ten_reduced(rows.table, MainRow::WIDTH * row) {
-            return false;
-        }
-        if !sums::denominator_ok(rows, row) {
-            return false;
-        }
-    }
-    true
+    (0..rows.count()).all(|row| {
+        table::all_reduced(&rows.table[MainRow::WIDTH * row..MainRow::WIDTH * (row + 1)])
+            && sums::denominator_ok(rows, row)
+    })
 }
 
 // Reasons 1, 8 and 9, in this order; no word is read where the shapes are wrong, and old aux words never. Where one pass finds nothing against
-// the rows, there is none; else each reason is asked for. The rows come back, where there is no reason.
+// the rows, there is none; else each reason is asked for. To ask for each alone takes 5 to 9 percent longer on a table without a reason, since it
+// is then read twice (docs/DECISIONS.md). The rows come back, where there is no reason.
 #[tactic(auto, using(crate::proofs::Reasons::judge_steps))]
 fn judge<'a>(table: &'a [u64], aux: &[u64], challenges: &[u64]) -> Result<Rows<'a>, Refusal>
     ensures { Judged table.now aux.now challenges.now result }

@@ -14,27 +14,24 @@ ghost use Rattle.fill.specs.Padding.{last_filled, padding_row, pad_all};
 
 use field::BFieldElement;
 use isa::Opcode;
-use list::{Counted, LentList, UsedPlaces};
+use list::{Copied, LentList, UsedPlaces};
 use table::MainRow;
 use words::Refusal;
 
-// Fills the sections of a list that is judged fine, one after the other from row 0 on, and answers how many rows they have. Every entry was
-// admitted, so each has a section.
-fn fill_sections(places: &UsedPlaces, table: &mut [u64]) -> u64
+// Fills the sections of a list that is judged fine, one after the other from row 0 on. Every entry was admitted, so each has a section.
+fn fill_sections(places: &UsedPlaces, table: &mut [u64])
     requires fine { judge_list (counts_in places.now.list) ≡ Fine }
     requires room { main_width * list_height (counts_in places.now.list) ≤ length table.old }
-    ensures value { result ≡ list_height (counts_in places.now.list) }
-    ensures table_after { table.new ≡ filled (counts_in places.now.list) table.old }
+    ensures { table.new ≡ filled (counts_in places.now.list) table.old }
 {
     let list = places.list;
     let mut row: usize = 0;
-    // By place. With `chunks_exact` of the keys, `zip` and `take` the proof closed too, but took 166 lines in the place of 87: it has to say what both iterators have left.
+    // By place, and not by chunks of the keys: a chunk would be cut and then be read at its place 0.
     for place in 0..list.sizes.used {
         let entry = list::entry_at(list.keys, place);
         fill_sections::fill_entry(table, row, entry, list.multiplicities[place]);
         row += entry.table_height_contribution() as usize;
     }
-    row as u64
 }
 
 // Fills the sections of the list's counted keys, in list order, from row 0 on. The answer is the height; later rows keep their words. A key whose
@@ -47,12 +44,13 @@ pub fn fill(list: &LentList, table: &mut [u64]) -> Result<u64, Refusal>
     if !MainRow::has_shape(table) {
         return Err(Refusal::Shape);
     }
-    let mut counted = Counted::none();
-    let height = list.judge_counted(&mut counted)?;
+    let mut counted = Copied::none();
+    let height = list.judge_and_gather(&mut counted)?;
     if ((table.len() / MainRow::WIDTH) as u64) < height {
         return Err(Refusal::Short);
     }
-    Ok(fill_sections(&counted.lent(), table))
+    fill_sections(&counted.lent(), table);
+    Ok(height)
 }
 
 // What counts as the last filled row where none is filled: zeros, with CI split.

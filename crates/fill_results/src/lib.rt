@@ -9,7 +9,7 @@ use field::BFieldElement;
 use isa::Opcode;
 
 // Whether a row with these words ends its section.
-// No method: `check_plain` asks it of a row of a table, and would make a `ResultRow` for it, two of whose words are not looked at.
+// Words, and no method of `ResultRow`: `check_plain`, which asks it of a row of a table, would fill five fields from that row so that three are read.
 #[tactic(auto, unfolding(crate::specs::Results::is_end))]
 pub fn is_end(ci: u64, lhs: u64, rhs: u64) -> bool
     ensures { result ≡ is_end ci lhs rhs }
@@ -34,13 +34,11 @@ impl ResultRow {
         ensures { result ≡ ending_of self.ci self.bits }
     {
         match Opcode::try_from(self.ci).ok()? {
-            Opcode::Split => Some(0),
             Opcode::Lt if self.bits == 0 => Some(0),
             Opcode::Lt => Some(2),
-            Opcode::And => Some(0),
             Opcode::Log2Floor => Some(BFieldElement::P - 1),
             Opcode::Pow => Some(1),
-            Opcode::PopCount => Some(0),
+            Opcode::Split | Opcode::And | Opcode::PopCount => Some(0),
         }
     }
 

@@ -1,11 +1,11 @@
 -- The recursion of section filling, said of rows and tables alone: what the end row leaves (`end_filled`), and what a row above leaves once
 -- the rows below it are filled (`unknown_filled`, `row_filled`). Assumes nothing.
-use Prim.Native.Nat.{ℕ, suc, ◌+◌, ◌*◌, ◌≤◌, ◌<◌}
+use Prim.Native.Nat.{ℕ, suc, ◌+◌, ◌*◌, ◌≤◌}
 use mathlib.Core.Path.{◌≡◌, refl, sym, ap, ◌∙◌}
 use mathlib.Core.Bool.{Bool, true, false}
 use mathlib.Core.List.{List, [], ◌∷◌, ◌++◌}
 use native.Mathlib.Omega.{arith}
-use lib.ListN.{length, get_or}
+use lib.ListN.{length}
 use lib.Seq.{sets}
 use Rattle.words.proofs.Sets.{sets_append, sets_comm}
 use Rattle.isa.specs.Opcodes.{is_opcode}

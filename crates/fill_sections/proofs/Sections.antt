@@ -154,7 +154,7 @@ rows_from_lem (suc n) q k h = go (is_last q) refl (λ e. rows_from_lem n (next_p
         ≡ above q (carry q.ci q.copy_flag q.bits q.lhs q.rhs b.first.result) (b.first ∷ b.more)
         = section_next n q e ∙ ap (above_section q) b.is in
         let s = row_above_lem q e (carry_known q.ci q.copy_flag q.bits q.lhs q.rhs b.first.result k) b.ends i in
-        record { first = s.first; more = s.more; is = s.is; top = s.top; count = s.count ∙ ap suc b.count; ends = s.ends }
+        record { first = s.first; more = s.more; is = s.is; top = s.top; count = rw b.count at s.count; ends = s.ends }
 
 -- an admitted entry's section
 pub section_rows : (e : U32TableEntry) (m : ℕ) → Admissible e → HasRows (height e) (first_pending e m) (section e m)

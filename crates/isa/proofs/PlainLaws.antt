@@ -2,18 +2,19 @@
 -- The table's rows halve the operands, so a section's Results follow these steps from its last row up.
 use mathlib.Core.Path.{◌≡◌, refl, sym, ap, ◌∙◌}
 use mathlib.Core.Bool.{Bool, true, false, cond}
-use mathlib.Core.Logic.{◌≢◌}
+use mathlib.Core.Logic.{◌≢◌, inl, inr}
 use Prim.Native.Nat.{ℕ, zero, suc, ◌+◌, ◌*◌, ◌/◌, ◌%◌, ◌^◌, ◌≤◌, ◌<◌, min}
 use native.Mathlib.Omega.{arith}
-use borrow.Author.Tests.{lt-ltb, le-ltb, ltb-true, ltb-false, eqb-true, eqb-false}
+use borrow.Author.Tests.{lt-ltb, le-ltb, ne_eqb, ltb-true, ltb-false, eqb-true, eqb-false}
 use lib.Dec.{eqb, ltb}
 use lib.Bits.{and_step, and_zero_l, and_zero_r, and_le_l, and_le_r}
 use lib.Count.{ones, ones_step, ones-le}
 use Rattle.std.proofs.lemmas.Bool.{cond_both}
 use Rattle.field.specs.Elements.{p, mul_f}
 use Rattle.field.proofs.Laws.{pow_f_lt, pow_f_zero, pow_f_double, pow_f_double_suc}
-use Rattle.isa.specs.Opcodes.{op_split, op_lt, op_log2_floor, op_and, op_pop_count, op_pow}
+use Rattle.isa.specs.Opcodes.{op_split, op_lt, op_log2_floor, op_and, op_pop_count, op_pow, is_opcode}
 use Rattle.isa.specs.PlainFunctions.{plain_lt, plain_and, floor_log2, plain_pow, digit_sum, one_bits, plain_result}
+use Rattle.isa.proofs.Entries.{not_one_of_six}
 use Rattle.isa.proofs.Logarithm.{floor_log2_half, floor_log2_below, floor_log2_zero}
 
 -- ---- lt
@@ -160,6 +161,23 @@ module _ (l r : ℕ) where
   pub result_pop_count : plain_result op_pop_count l r ≡ one_bits l
   unfolding plain_result
   result_pop_count = refl
+
+-- split has none, and neither has a word that is no opcode
+pub none_of_split : (o l r : ℕ) → o ≡ op_split → plain_result o l r ≡ 0
+unfolding plain_result
+none_of_split o l r e = rw e
+
+pub none_of_stranger : (o l r : ℕ) → is_opcode o ≡ false → plain_result o l r ≡ 0
+unfolding plain_result
+none_of_stranger o l r e =
+    let no = not_one_of_six o e in
+    simp (
+      ne_eqb o op_lt (λ k. no (inr (inl k))),
+      ne_eqb o op_log2_floor (λ k. no (inr (inr (inl k)))),
+      ne_eqb o op_and (λ k. no (inr (inr (inr (inl k))))),
+      ne_eqb o op_pop_count (λ k. no (inr (inr (inr (inr (inl k)))))),
+      ne_eqb o op_pow (λ k. no (inr (inr (inr (inr (inr k)))))),
+    )
 
 pub below_cond : (t : Bool) {a b : ℕ} → a < p → b < p → cond t a b < p
 below_cond t {a} {b} f g = cond_both t a b (λ (n : ℕ). n < p) (λ _. f) (λ _. g)

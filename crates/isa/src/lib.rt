@@ -185,7 +185,9 @@ impl U32TableEntry {
         }
     }
 
-    // The plain function of the instruction, which is the Result of the entry's first row; 0 for split, which has none.
+    // The plain function of the instruction, which is the Result of the entry's first row; 0 for split, which has none, and for a word that is no
+    // instruction's number.
+    #[tactic(auto, using(crate::proofs::PlainLaws::none_of_split, crate::proofs::PlainLaws::none_of_stranger))]
     pub fn plain_result(self) -> u64
         ensures { result ≡ plain_result self.opcode (lhs self) (rhs self) }
     {
@@ -195,9 +197,7 @@ impl U32TableEntry {
             Ok(Opcode::Log2Floor) => floor_log2(self.left_operand),
             Ok(Opcode::Pow) => BFieldElement(self.left_operand).pow(self.right_operand).0,
             Ok(Opcode::PopCount) => u64::from(self.left_operand.count_ones()),
-            // Two arms: one or-pattern of both was tried, and then a goal has no name but the prover's own, which may change.
-            Ok(Opcode::Split) => 0,
-            Err(_) => 0,
+            Ok(Opcode::Split) | Err(_) => 0,
         }
     }
 

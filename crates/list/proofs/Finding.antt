@@ -12,7 +12,11 @@ use native.Mathlib.Numerals.{add-one}
 use lib.Dec.{eqb, ltb}
 use lib.ListN.{get_or}
 use borrow.Author.Tests.{eqb-true, eq-eqb, lt-ltb, le-ltb}
+use Rattle.std.specs.Prelude.{Option, Some, None, IfSome, IsSomeAnd}
+use Rattle.std.specs.Option.{option_map}
+use Rattle.std.specs.List.{IsSubsliceAt}
 use Rattle.std.proofs.lemmas.Bool.{and_parts}
+use Rattle.std.proofs.lemmas.Option.{none-some}
 use Rattle.isa.specs.declared.U32TableEntry.{U32TableEntry}
 use Rattle.field.specs.Elements.{p}
 use Rattle.isa.specs.Opcodes.{op_pow}
@@ -122,6 +126,11 @@ pub other_word_fits : (e : U32TableEntry) → e.opcode ≡ op_pow → lhs e < 42
 unfolding other_word
 other_word_fits e k h = rw (eq-eqb e.opcode op_pow k, lt-ltb (lhs e) 4294967295 h)
 
+-- where there is none
+pub other_word_past : (e : U32TableEntry) → e.opcode ≡ op_pow → 4294967295 ≤ lhs e → other_word e ≡ lhs e
+unfolding other_word
+other_word_past e k h = rw (eq-eqb e.opcode op_pow k, le-ltb (lhs e) 4294967295 h)
+
 -- which words stand for LHS of the key e, at a place whose entry it is
 word_of : (x e : U32TableEntry) → lhs x < 18446744073709551616 → admitted x ≡ e → (lhs x ≡ lhs e) ⊎ (lhs x ≡ other_word e)
 word_of x e h q =
@@ -133,8 +142,24 @@ word_of x e h q =
     inr (l ∙ sym (other_word_fits e o (omega arith))))
     (lhs_words x h)
 
+-- an item of a run is what holds of it
+pub present : {X : Type 0} (o : Option X) (P : X → Type 0) {y : X} → option_map (λ x. x) o ≡ Some y → IfSome o P → IsSomeAnd o P
+present None P e h = absurd (none-some _ e)
+present (Some x) P e h = h
+
+-- the eight places with this number are told apart from the key
+abbrev pub Apart : List ℕ → U32TableEntry → ℕ → Type 0
+Apart keys e eight = (EightDiffer keys (8 * eight) (lhs e)) × (EightDiffer keys (8 * eight) (other_word e))
+
 abbrev Words : List ℕ → Type 0
 Words keys = (j : ℕ) → get_or keys j 0 < 18446744073709551616
+
+-- eight keys of a list differ where the eight places do
+pub eight_at : (keys : List ℕ) (k lhs : ℕ) {eight : List ℕ} → IsSubsliceAt 24 keys (k * 24) eight → EightDiffer eight 0 lhs → EightDiffer keys (8 * k) lhs
+unfolding EightDiffer
+eight_at keys k lhs c d = λ j b.
+    let place : k * 24 + (entry_width * (0 + j) + 1) ≡ entry_width * (8 * k + j) + 1 = omega arith in
+    subst (λ (w : ℕ). w ≢ lhs) (c.2 (entry_width * (0 + j) + 1) 0 (omega arith) ∙ ap (λ (i : ℕ). get_or keys i 0) place) (d j b)
 
 module _ (l : U32List) (e : U32TableEntry) where
   find_misses : (k i n : ℕ) → i + k ≤ n → ((j : ℕ) → j < k → same_key (entry_at l (i + j)) e ≡ false)
@@ -171,7 +196,7 @@ module _ (l : U32List) (e : U32TableEntry) where
 
   -- the first eights, told apart one by one
   pub find_eights : Words l.keys → (m n : ℕ) → 8 * m ≤ n
-      → ((k : ℕ) → k < m → (EightDiffer l.keys (8 * k) (lhs e)) × (EightDiffer l.keys (8 * k) (other_word e)))
+      → ((k : ℕ) → k < m → Apart l.keys e k)
       → find_from l e 0 n ≡ find_from l e (8 * m) (n - 8 * m)
   find_eights w zero n h d = ap (find_from l e 0) (sym (sub-zero n))
   find_eights w (suc m) n h d =

@@ -1,6 +1,7 @@
 -- What it tells that a list with its holds is judged fine.
 --   held_shaped, held_shape_fine: the shape test finds nothing exactly where the list's does and there is a hold a place.
 --   no_hold, closed: 15 finds nothing exactly where no used place has a hold.
+--   judged_held_list: past shape and holds, what is judged is the list that gets sections; judged_held_places: its places alone, since its shape is right.
 --   held_told, held_fine: the judge finds nothing exactly where the shape is right, no hold is open and the list that gets sections is judged fine.
 -- Assumes nothing.
 use Prim.Native.Nat.{ℕ, zero, suc, ◌+◌, ◌≤◌, ◌<◌}
@@ -18,8 +19,10 @@ use Rattle.words.specs.declared.Refusal.{Refusal}
 use Rattle.words.specs.declared.Refusal.TheVariants.{Shape, OpenHold}
 use Rattle.words.proofs.Judgements.{decline_not_true, decline_not_fine, or_next, or_first, or_both, first_fine, first_none}
 use Rattle.list.specs.Lists.{capacity, used, list_shape, judge_list}
-use Rattle.list.specs.Heights.{list_height, judged_list}
+use Rattle.list.specs.Heights.{list_height, judged_list, judged_places}
 use Rattle.list.specs.Holds.{HeldList, hold_at, held_shape, judge_hold, open_hold, section_list, judge_held, judged_held}
+use Rattle.list.specs.Counted.{counted}
+use Rattle.list.proofs.CountedLists.{counted_shaped}
 use Rattle.list.proofs.JudgedLists.{Shaped, shaped, shape_fine, judged_as_height, judged_as_refused}
 
 -- ---- the shape
@@ -105,6 +108,10 @@ module _ (h : HeldList) where
     pub judged_held_list : open_hold h ≡ Fine → judged_held h ≡ judged_list (section_list h)
     unfolding judged_held judge_held judged_list
     judged_held_list e = rw (shape, e)
+
+    pub judged_held_places : open_hold h ≡ Fine → judged_held h ≡ judged_places false (section_list h)
+    unfolding judged_held judge_held section_list judge_list judged_places
+    judged_held_places e = rw (shape, e, shape_fine (counted h.list) (counted_shaped h.list (held_shaped shape).list))
 
   -- ---- what an answer of `judge_held` tells
 

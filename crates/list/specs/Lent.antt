@@ -2,7 +2,7 @@
 use Rattle.std.specs.Prelude.{◌≡◌, ◌*◌, take}
 use Rattle.isa.specs.Entries.{entry_width}
 use Rattle.list.specs.declared.LentCounts.{LentCounts}
-use Rattle.list.specs.declared.Counted.{Counted}
+use Rattle.list.specs.declared.Copied.{Copied}
 use Rattle.list.specs.declared.LentList.{LentList}
 use Rattle.list.specs.declared.LentListMut.{LentListMut}
 use Rattle.list.specs.Lists.{U32List, u32_list}
@@ -11,13 +11,13 @@ use Rattle.list.specs.Holds.{HeldList, held_list}
 abbrev pub counts_in : LentCounts → U32List
 counts_in l = u32_list l.sizes l.keys.now l.multiplicities.now
 
--- a copy of counted places: as many places as it says, from the front of its arrays on
-abbrev pub counted_in : Counted → U32List
-counted_in c =
+-- places that are copied: as many as it says, from the front of its arrays on
+abbrev pub copied_in : Copied → U32List
+copied_in c =
     u32_list (record { capacity = c.used; used = c.used }) (take (entry_width * c.used) c.keys) (take c.used c.multiplicities)
 
 abbrev pub held_in : LentList → HeldList
-held_in l = held_list l.sizes l.keys.now l.multiplicities.now l.holds.now
+held_in l = held_list l.list.sizes l.list.keys.now l.list.multiplicities.now l.holds.now
 
 abbrev pub held_in_mut : LentListMut → HeldList
 held_in_mut l = held_list l.sizes l.keys.now l.multiplicities.now l.holds.now

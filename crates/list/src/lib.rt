@@ -41,26 +41,25 @@ pub struct UsedPlaces<'a> {
     pub ghost in_bounds: { (list.sizes.used ≤ max_places) × (entry_width * list.sizes.used ≤ length list.keys.now) × (list.sizes.used ≤ length list.multiplicities.now) },
 }
 
-// The counted places of a list, one after the other, in a copy: their keys and multiplicities, from the front of the two arrays on.
-// The arrays are fixed and no vectors: no call may fail for want of memory.
+// Places that are copied, one after the other: their keys and multiplicities, from the front of the two arrays on.
+// The arrays are fixed and no vectors: no call may fail for want of memory. No `ArrayVec`s either: those lend the places in use alone, while `counted` and
+// `unpack` of list_bytes store in arrays as they are lent, past what is in use; and two have two lengths, one always three times the other.
 #[derive(Drop)]
-pub struct Counted {
+pub struct Copied {
     pub used: usize,
     pub keys: [u64; U32TableEntry::WIDTH * MAX_PLACES],
     pub multiplicities: [u64; MAX_PLACES],
     pub ghost fits: { used ≤ max_places },
 }
 
-// A list as it is lent: its sizes; its keys, three words a place; its multiplicities and its holds, one each a place.
+// A list with its holds, as it is lent: any words.
 #[derive(Clone, Copy)]
 pub struct LentList<'a> {
-    pub sizes: Sizes,
-    pub keys: &'a [u64],
-    pub multiplicities: &'a [u64],
+    pub list: LentCounts<'a>,
     pub holds: &'a [u64],
 }
 
-// The same, lent to be changed.
+// The same, lent to be changed: its sizes; its keys, three words a place; its multiplicities and its holds, one each a place.
 #[derive(Drop)]
 pub struct LentListMut<'a> {
     pub sizes: Sizes,
@@ -77,9 +76,11 @@ impl LentListMut<'_> {
         ensures { held_in result ≡ held_in_mut self.now }
     {
         LentList {
-            sizes: self.sizes,
-            keys: self.keys,
-            multiplicities: self.multiplicities,
+            list: LentCounts {
+                sizes: self.sizes,
+                keys: self.keys,
+                multiplicities: self.multiplicities,
+            },
             holds: self.holds,
         }
     }
@@ -111,12 +112,14 @@ pub fn put_key(keys: &mut [u64], i: usize, key: U32TableEntry)
     words::put_record(keys, i, key.words());
 }
 
-// Yes: the eight places from i on have another word where LHS stands.
-fn do_eight_differ(keys: &[u64], i: usize, left_operand: u64) -> bool
-    requires { entry_width * (i + 8) ≤ length keys.now }
-    ensures { result ≡ true → EightDiffer keys.now i left_operand }
+// Yes: eight places have another word where LHS stands.
+fn do_eight_differ(eight: &[u64], left_operand: u64) -> bool
+    requires { length eight.now ≡ entry_width * 8 }
+    ensures { result ≡ true → EightDiffer eight.now 0 left_operand }
 {
-    (i..i + 8).all(|place| keys[U32TableEntry::WIDTH * place + 1] != left_operand)
+    eight
+        .chunks_exact(U32TableEntry::WIDTH)
+        .all(|key| key[1] != left_operand)
 }
 
 // The other word that stands for LHS of the key at a place: of pow, LHS + p where it fits a word. Where there is none, LHS.
@@ -125,23 +128,24 @@ fn other_word(key: U32TableEntry) -> u64
     ensures { result ≡ other_word key }
 {
     if key.opcode == Opcode::Pow as u64 {
-        if key.left_operand < 4294967295 {
-            return key.left_operand + BFieldElement::P;
-        }
+        key.left_operand
+            .checked_add(BFieldElement::P)
+            .unwrap_or(key.left_operand)
+    } else {
+        key.left_operand
     }
-    key.left_operand
 }
 
-// Yes: the eight places from i on have neither of the two words where LHS stands.
-fn do_eight_differ_from_both(keys: &[u64], i: usize, left_operand: u64, other: u64) -> bool
-    requires { entry_width * (i + 8) ≤ length keys.now }
-    ensures { result ≡ true → (EightDiffer keys.now i left_operand) × (EightDiffer keys.now i other) }
+// Yes: eight places have neither of the two words where LHS stands.
+fn do_eight_differ_from_both(eight: &[u64], left_operand: u64, other: u64) -> bool
+    requires { length eight.now ≡ entry_width * 8 }
+    ensures { result ≡ true → (EightDiffer eight.now 0 left_operand) × (EightDiffer eight.now 0 other) }
 {
-    do_eight_differ(keys, i, left_operand)
-        && (other == left_operand || do_eight_differ(keys, i, other))
+    do_eight_differ(eight, left_operand) && (other == left_operand || do_eight_differ(eight, other))
 }
 
-// Whether place i holds the key. RHS is asked for first, since it stands there as admission hands it back.
+// Whether place i holds the key. RHS is asked for first, since it stands there as admission hands it back, so that a key is reduced only where RHS is equal:
+// for speed (docs/changes/07.md: recording 2,048 keys of pow with one base takes 0.60 ms; before keys were reduced, and without this, it took 0.88).
 #[tactic(auto, using(crate::proofs::Finding::equal_is_same, crate::proofs::Finding::differ_by_rhs))]
 fn holds(keys: &[u64], i: usize, key: U32TableEntry) -> bool
     requires { entry_width * i + 2 < length keys.now }
@@ -151,16 +155,17 @@ fn holds(keys: &[u64], i: usize, key: U32TableEntry) -> bool
 }
 
 // The first of these places that holds the key, if one does: eight at a time, up to eight that get a no, or to the last eight; from there one by one.
+// Eight at a time for speed: recording 2,048 keys took 1.69 ms one by one and takes 0.45, and with one LHS 1.11 and 1.20 (docs/BENCHMARKS.md).
 pub fn find(keys: &[u64], key: U32TableEntry) -> Option<usize>
     ensures within { IfSome result (λ at. at < length keys.now / entry_width) }
     ensures first { (s : Sizes) (ms : List ℕ) → unwrap_or result (length keys.now / entry_width) ≡ find_from (u32_list s keys.now ms) key 0 (length keys.now / entry_width) }
 {
     let n = keys.len() / U32TableEntry::WIDTH;
     let other = other_word(key);
-    let eights = n / 8;
-    let passed = (0..eights)
-        .find(|eight| !do_eight_differ_from_both(keys, 8 * *eight, key.left_operand, other))
-        .unwrap_or(eights);
+    let passed = keys
+        .chunks_exact(8 * U32TableEntry::WIDTH)
+        .position(|eight| !do_eight_differ_from_both(eight, key.left_operand, other))
+        .unwrap_or(n / 8);
     (8 * passed..n).find(|place| holds(keys, *place, key))
 }
 
@@ -181,7 +186,8 @@ pub fn one_more_is_full(multiplicity: u64, holds: u64) -> bool
 }
 
 // An entry admitted by one of the two rules: that of stored bytes, or the other.
-// The rule is a flag and no closure: what a closure answers would be a `requires` of `judge_places`, which asks its callers nothing of the rule.
+// The rule is a flag, as `judge_entry_by` takes it. What a closure answers would be a `requires` of `judge_places`, which asks its callers nothing of the
+// rule; an enum of the two rules would be turned into the flag in each clause.
 #[tactic(auto, unfolding(crate::specs::Lists::judge_entry_by, isa::specs::Entries::admit))]
 fn admit_by(stored: bool, key: U32TableEntry) -> Result<U32TableEntry, Refusal>
     ensures { result ≡ admission (judge_entry_by stored key) key }
@@ -214,7 +220,7 @@ impl LentCounts<'_> {
     }
 
     // The places whose multiplicity is not 0, one after the other: their keys and multiplicities, from the front of the two arrays on. The answer is
-    // the sizes of the list that they are.
+    // the sizes of the list that they are. No method of `UsedPlaces`, which would ask besides that at most 2,048 places be used.
     pub fn counted(&self, to_keys: &mut [u64], to_multiplicities: &mut [u64]) -> Sizes
         requires used_in_bounds { (entry_width * self.now.sizes.used ≤ length self.now.keys.now) × (self.now.sizes.used ≤ length self.now.multiplicities.now) }
         requires used_in_bounds_2 { (entry_width * self.now.sizes.used ≤ length to_keys.old) × (self.now.sizes.used ≤ length to_multiplicities.old) }
@@ -266,23 +272,23 @@ impl UsedPlaces<'_> {
     }
 }
 
-impl Counted {
-    ghost use Rattle.list.specs.Lent.{counts_in, counted_in};
+impl Copied {
+    ghost use Rattle.list.specs.Lent.{counts_in, copied_in};
 
     // A copy of no place.
-    pub fn none() -> Counted
-        ensures { counted_in result ≡ u32_list (record { capacity = 0; used = 0 }) [] [] }
+    pub fn none() -> Copied
+        ensures { copied_in result ≡ u32_list (record { capacity = 0; used = 0 }) [] [] }
     {
-        Counted {
+        Copied {
             used: 0,
             keys: [0u64; U32TableEntry::WIDTH * MAX_PLACES],
             multiplicities: [0u64; MAX_PLACES],
         }
     }
 
-    // It becomes a copy of the places whose multiplicity is not 0. It is lent and no answer: an answer of so many words would be copied.
+    // It becomes a copy of the places whose multiplicity is not 0. It is filled where it stands.
     pub fn gather(&mut self, places: &UsedPlaces)
-        ensures list { counted_in self.new ≡ counted_of (counts_in places.now.list) }
+        ensures list { copied_in self.new ≡ counted_of (counts_in places.now.list) }
     {
         let copied = places
             .list
@@ -292,7 +298,7 @@ impl Counted {
 
     // The list that they are.
     pub fn lent(&self) -> UsedPlaces<'_>
-        ensures { counts_in result.list ≡ counted_in self.now }
+        ensures { counts_in result.list ≡ copied_in self.now }
     {
         let used = self.used;
         UsedPlaces {
@@ -308,33 +314,16 @@ impl Counted {
     }
 }
 
-impl<'a> LentList<'a> {
-    ghost use Rattle.list.specs.Lent.{counts_in, counted_in, held_in};
-
-    // The list without its holds.
-    pub fn counts(&self) -> LentCounts<'a>
-        ensures { counts_in result ≡ (held_in self.now).list }
-    {
-        let LentList {
-            sizes,
-            keys,
-            multiplicities,
-            ..
-        } = *self;
-        LentCounts {
-            sizes,
-            keys,
-            multiplicities,
-        }
-    }
+impl LentList<'_> {
+    ghost use Rattle.list.specs.Lent.{copied_in, held_in};
 
     // Reason 1.
     #[tactic(auto, unfolding(crate::specs::Holds::held_shape))]
     pub fn held_shape(&self) -> Result<(), Refusal>
         ensures { result ≡ held_shape (held_in self.now) }
     {
-        self.counts().list_shape()?;
-        if self.holds.len() == self.sizes.capacity {
+        self.list.list_shape()?;
+        if self.holds.len() == self.list.sizes.capacity {
             Ok(())
         } else {
             Err(Refusal::Shape)
@@ -348,7 +337,7 @@ impl<'a> LentList<'a> {
         if self
             .holds
             .iter()
-            .take(self.sizes.used)
+            .take(self.list.sizes.used)
             .all(|hold| *hold == 0)
         {
             Ok(())
@@ -358,24 +347,22 @@ impl<'a> LentList<'a> {
     }
 
     // Reasons 1 and 15; then the counted places are gathered, which get sections, and 2 to 5 are asked of them entry by entry; where there is none, their height.
-    pub fn judge_counted(&self, counted: &mut Counted) -> Result<u64, Refusal>
+    pub fn judge_and_gather(&self, counted: &mut Copied) -> Result<u64, Refusal>
         ensures height { result ≡ judged_held (held_in self.now) }
-        ensures gathered { OnOk result (counted_in counted.new ≡ section_list (held_in self.now)) }
+        ensures gathered { OnOk result (copied_in counted.new ≡ section_list (held_in self.now)) }
     {
         self.held_shape()?;
         self.open_hold()?;
-        counted.gather(&UsedPlaces {
-            list: self.counts(),
-        });
-        counted.lent().list.judge_list()
+        counted.gather(&UsedPlaces { list: self.list });
+        counted.lent().judge_places(false)
     }
 
     // The same for who needs the height alone.
     pub fn judge_held(&self) -> Result<u64, Refusal>
         ensures { result ≡ judged_held (held_in self.now) }
     {
-        let mut counted = Counted::none();
-        self.judge_counted(&mut counted)
+        let mut counted = Copied::none();
+        self.judge_and_gather(&mut counted)
     }
 }
 

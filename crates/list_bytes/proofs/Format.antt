@@ -2,17 +2,19 @@
 -- form of what they hold. Each number is read from its own bytes alone, so the first goes by where a part stands, the second by taking the
 -- bytes apart.
 use mathlib.Core.Path.{◌≡◌, refl, sym, ap, ◌∙◌}
-use mathlib.Core.List.{List, ◌++◌, flat_map}
-use Prim.Native.Nat.{ℕ, ◌+◌, ◌*◌, ◌^◌, ◌≤◌, ◌<◌}
+use mathlib.Core.List.{List, ◌++◌, flat_map, append-nil}
+use Prim.Native.Nat.{ℕ, ◌+◌, ◌-◌, ◌*◌, ◌^◌, ◌≤◌, ◌<◌}
 use native.Mathlib.Nat.{zero-add, add-zero, add_assoc, mul-zero}
 use borrow.Author.Tests.{eq-eqb, ne_eqb}
 use native.Mathlib.Omega.{arith}
 use lib.ListN.{length, get_or, take, drop, length-append}
-use lib.Seq.{sets, take_all, take-add, drop-drop}
+use lib.Seq.{sets, length-sets, take_all, take-add, drop-drop}
+use borrow.Rule.Slice.PartMut.{put_mid}
+use Rattle.std.proofs.lemmas.List.{drop_all}
 use Rattle.words.specs.LittleEndian.{le_at, le}
 use Rattle.words.specs.Places.{places}
 use Rattle.words.proofs.LittleEndian.{length_le, le_at_same, le_at_left, le_at_right, le_at_le, le_le_at}
-use Rattle.words.proofs.Sets.{sets_then}
+use Rattle.words.proofs.Sets.{sets_then, sets_front, part_sets}
 use Rattle.words.proofs.Places.{block_end, length_places, length_flat, get_d_flat, flat_parts}
 use Rattle.isa.specs.declared.U32TableEntry.{U32TableEntry}
 use Rattle.isa.specs.Entries.{lhs, rhs}
@@ -51,22 +53,40 @@ length_key e = refl
 pub length_keys : (f : ℕ → U32TableEntry) (n : ℕ) → length (keys_form f n) ≡ key_width * n
 length_keys f n = length_flat (λ i. key_bytes (f i)) key_width (λ i. length_key (f i)) 0 n
 
-length_counts : (w : ℕ) (m : ℕ → ℕ) (n : ℕ) → length (counts_form w m n) ≡ w * n
+pub length_counts : (w : ℕ) (m : ℕ → ℕ) (n : ℕ) → length (counts_form w m n) ≡ w * n
 length_counts w m n = length_flat (λ i. le w (m i)) w (λ i. length_le w (m i)) 0 n
 
 pub length_formed : (w : ℕ) (f : ℕ → U32TableEntry) (m : ℕ → ℕ) (n h : ℕ) → length (formed w f m n h) ≡ length_with w n
 length_formed w f m n h = simp (length-append, length_le, length_keys f n, length_counts w m n) (omega arith)
 
--- the form, stored part by part
-pub put_form : (n h k : ℕ) (ks ms d d1 d2 d3 d4 : List ℕ) → length ks ≡ k
-    → d1 ≡ sets d 0 (le n_width n) → d2 ≡ sets d1 n_width (le height_width h) → d3 ≡ sets d2 head_width ks → d4 ≡ sets d3 (head_width + k) ms
-    → d4 ≡ sets d 0 (le n_width n ++ (le height_width h ++ (ks ++ ms)))
-put_form n h k ks ms d d1 d2 d3 d4 l e1 e2 e3 e4 =
-    e4
-    ∙ sym
-    (sets_then (le n_width n) (le height_width h ++ (ks ++ ms)) d d1 0 n_width e1 (omega (arith, length_le n_width n))
-    ∙ sets_then (le height_width h) (ks ++ ms) d1 d2 n_width head_width e2 (omega (arith, length_le height_width h))
-    ∙ sets_then ks ms d2 d3 head_width (head_width + k) e3 (omega arith))
+-- a run as long as the list replaces it
+pub sets_whole : (vs l : List ℕ) → length vs ≡ length l → sets l 0 vs ≡ vs
+sets_whole vs l e =
+    sets_front vs l (omega arith) ∙ ap (λ (rest : List ℕ). vs ++ rest) (drop_all (length vs) l (omega arith)) ∙ append-nil vs
+
+-- the form, stored part by part: the number of entries and the height; then the keys and the multiplicities, each in a part of the bytes
+module _ (f : ℕ → U32TableEntry) (m : ℕ → ℕ) (n h : ℕ) (d d1 d2 keys counts : List ℕ) where
+  -- the bytes with the keys
+  abbrev keys_put : List ℕ
+  keys_put = put_mid head_width (keys_end n - head_width) d2 keys
+
+  pub put_form : d1 ≡ sets d 0 (le n_width n) → d2 ≡ sets d1 n_width (le height_width h) → keys ≡ keys_form f n → counts ≡ counts_form multiplicity_width m n
+      → stored_length n ≤ length d
+      → put_mid (keys_end n) (keys_end n + multiplicity_width * n - keys_end n) keys_put counts ≡ sets d 0 (formed multiplicity_width f m n h)
+  put_form e1 e2 ek ec room =
+      let ks = keys_form f n in
+      let ms = counts_form multiplicity_width m n in
+      let lk = length_keys f n in
+      let lm = length_counts multiplicity_width m n in
+      let l2 : length d2 ≡ length d
+      = ap length e2 ∙ length-sets d1 n_width (le height_width h) ∙ ap length e1 ∙ length-sets d 0 (le n_width n) in
+      let put : keys_put ≡ sets d2 head_width ks = part_sets d2 keys ks head_width _ ek (omega arith) (omega arith) in
+      let l3 : length keys_put ≡ length d2 = ap length put ∙ length-sets d2 head_width ks in
+      part_sets keys_put counts ms (keys_end n) _ ec (omega arith) (omega arith)
+      ∙ sym
+      (sets_then (le n_width n) (le height_width h ++ (ks ++ ms)) d d1 0 n_width e1 (omega (arith, length_le n_width n))
+      ∙ sets_then (le height_width h) (ks ++ ms) d1 d2 n_width head_width e2 (omega (arith, length_le height_width h))
+      ∙ sets_then ks ms d2 keys_put head_width (keys_end n) put (omega arith))
 
 -- ---- where a number stands
 

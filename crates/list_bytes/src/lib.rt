@@ -102,43 +102,44 @@ impl StoredList<'_> {
     }
 }
 
-// Stores the bytes of an entry from place `at` on.
-// Here and below the bytes are lent with a place and by no cursor: each place is known from the number of entries, and no call answers the next.
-fn put_entry(out: &mut [u8], at: usize, e: U32TableEntry)
-    requires { at + key_width ≤ length out.old }
-    ensures { out.new ≡ sets out.old at (key_bytes e) }
+// The bytes become those of an entry.
+fn put_entry(out: &mut [u8], e: U32TableEntry)
+    requires { length out.old ≡ key_width }
+    ensures { out.new ≡ key_bytes e }
 {
-    words::put_le(out, at, OPCODE_WIDTH, e.opcode);
-    words::put_le(out, at + OPCODE_WIDTH, OPERAND_WIDTH, e.left_operand);
+    words::put_le(out, 0, OPCODE_WIDTH, e.opcode);
+    words::put_le(out, OPCODE_WIDTH, OPERAND_WIDTH, e.left_operand);
     words::put_le(
         out,
-        at + OPCODE_WIDTH + OPERAND_WIDTH,
+        OPCODE_WIDTH + OPERAND_WIDTH,
         OPERAND_WIDTH,
         e.right_operand,
     );
 }
 
-// Stores the bytes of a list's entries from place `at` on.
-fn put_entries(used: &UsedPlaces, out: &mut [u8], at: usize)
-    requires { at + key_width * used.now.list.sizes.used ≤ length out.old }
-    ensures { out.new ≡ sets out.old at (flat_map (λ i. key_bytes (entry_at (counts_in used.now.list) i)) (places used.now.list.sizes.used)) }
+// The bytes become those of a list's entries.
+// By place, here and below: `chunks_exact_mut` was tried, and after such a loop a proof knows nothing of what was written.
+fn put_entries(used: &UsedPlaces, out: &mut [u8])
+    requires { length out.old ≡ key_width * used.now.list.sizes.used }
+    ensures { out.new ≡ flat_map (λ i. key_bytes (entry_at (counts_in used.now.list) i)) (places used.now.list.sizes.used) }
 {
     let list = used.list;
     for i in 0..list.sizes.used {
-        put_entry(out, at + KEY_WIDTH * i, list::entry_at(list.keys, i));
+        let at = KEY_WIDTH * i;
+        put_entry(&mut out[at..at + KEY_WIDTH], list::entry_at(list.keys, i));
     }
 }
 
-// Stores the bytes of a list's multiplicities from place `at` on.
-fn put_multiplicities(used: &UsedPlaces, out: &mut [u8], at: usize)
-    requires { at + multiplicity_width * used.now.list.sizes.used ≤ length out.old }
-    ensures { out.new ≡ sets out.old at (flat_map (λ i. le multiplicity_width (multiplicity_at (counts_in used.now.list) i)) (places used.now.list.sizes.used)) }
+// The bytes become those of a list's multiplicities.
+fn put_multiplicities(used: &UsedPlaces, out: &mut [u8])
+    requires { length out.old ≡ multiplicity_width * used.now.list.sizes.used }
+    ensures { out.new ≡ flat_map (λ i. le multiplicity_width (multiplicity_at (counts_in used.now.list) i)) (places used.now.list.sizes.used) }
 {
     let list = used.list;
     for i in 0..list.sizes.used {
         words::put_le(
             out,
-            at + MULTIPLICITY_WIDTH * i,
+            MULTIPLICITY_WIDTH * i,
             MULTIPLICITY_WIDTH,
             list.multiplicities[i],
         );
@@ -151,8 +152,12 @@ pub fn put_list(places: &UsedPlaces, height: u64, out: &mut [u8])
     ensures { out.new ≡ sets out.old 0 (bytes_with height (counts_in places.now.list)) }
 {
     let n = places.list.sizes.used;
+    let keys_end = HEAD_WIDTH + KEY_WIDTH * n;
     words::put_le(out, 0, N_WIDTH, n as u64);
     words::put_le(out, N_WIDTH, HEIGHT_WIDTH, height);
-    put_entries(places, out, HEAD_WIDTH);
-    put_multiplicities(places, out, HEAD_WIDTH + KEY_WIDTH * n);
+    put_entries(places, &mut out[HEAD_WIDTH..keys_end]);
+    put_multiplicities(
+        places,
+        &mut out[keys_end..keys_end + MULTIPLICITY_WIDTH * n],
+    );
 }

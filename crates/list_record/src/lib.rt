@@ -2,7 +2,7 @@
 // multiplicities and its holds, one each a place.
 #![tactic(auto)]
 
-ghost use Rattle.std.specs.Prelude.{◌≡◌, ◌+◌, ◌*◌, ◌^◌, ◌≤◌, ◌<◌, length};
+ghost use Rattle.std.specs.Prelude.{◌≡◌, ◌+◌, ◌*◌, ◌^◌, ◌≤◌, ◌<◌, [], ◌∷◌, length};
 ghost use Rattle.words.specs.Outcomes.{Leaves, completed_answer};
 ghost use Rattle.isa.specs.Entries.{entry_width};
 ghost use Rattle.list.specs.Holds.{held_list};
@@ -14,7 +14,7 @@ ghost use Rattle.list_record.specs.Placing.{place_as, place_of, stored_at, Fits}
 
 use isa::U32TableEntry;
 pub use list::Sizes;
-use list::{LentList, LentListMut};
+use list::{LentCounts, LentList, LentListMut};
 pub use words::MAX_PLACES;
 use words::{MIN_PADDED_HEIGHT, Refusal};
 
@@ -23,6 +23,15 @@ use words::{MIN_PADDED_HEIGHT, Refusal};
 pub struct Heights {
     pub height: u64,
     pub padded: u64,
+}
+
+impl Heights {
+    // As words: the height, and then the padded height.
+    pub fn words(self) -> [u64; 2]
+        ensures { result ≡ self.height ∷ self.padded ∷ [] }
+    {
+        [self.height, self.padded]
+    }
 }
 
 // Where an entry goes: the place of an equal key, or nowhere yet and this is the new key.
@@ -38,11 +47,9 @@ pub fn padded_height(height: u64) -> u64
     ensures exact { height ≤ 2 ^ 63 → result ≡ padded_height height }
     ensures past_a_word { 2 ^ 63 < height → result ≡ 0 }
 {
-    // No `map_or`: its proof would have to tell the two cases apart again.
-    match height.checked_next_power_of_two() {
-        Some(power) => power.max(MIN_PADDED_HEIGHT),
-        None => 0,
-    }
+    height
+        .checked_next_power_of_two()
+        .map_or(0, |power| power.max(MIN_PADDED_HEIGHT))
 }
 
 // The list's height and its padded height.
@@ -57,14 +64,14 @@ pub fn plan(list: &LentList) -> Result<Heights, Refusal>
 }
 
 // Where an admitted entry goes: to the first equal key, or as a new key; or 5 or 6.
-fn find_admitted(list: &LentList, entry: U32TableEntry) -> Result<Place, Refusal>
-    requires { (entry_width * list.now.sizes.used ≤ length list.now.keys.now) × (list.now.sizes.used ≤ length list.now.multiplicities.now) × (list.now.sizes.used ≤ length list.now.holds.now) }
-    ensures { result ≡ place_as (place_reason (held_in list.now) entry) (held_in list.now) entry }
+fn find_admitted(held: &LentList, entry: U32TableEntry) -> Result<Place, Refusal>
+    requires { (entry_width * held.now.list.sizes.used ≤ length held.now.list.keys.now) × (held.now.list.sizes.used ≤ length held.now.list.multiplicities.now) × (held.now.list.sizes.used ≤ length held.now.holds.now) }
+    ensures { result ≡ place_as (place_reason (held_in held.now) entry) (held_in held.now) entry }
 {
-    let keys = &list.keys[..U32TableEntry::WIDTH * list.sizes.used];
-    match list::find(keys, entry) {
+    let list = held.list;
+    match list::find(&list.keys[..U32TableEntry::WIDTH * list.sizes.used], entry) {
         Some(at) => {
-            if list::one_more_is_full(list.multiplicities[at], list.holds[at]) {
+            if list::one_more_is_full(list.multiplicities[at], held.holds[at]) {
                 Err(Refusal::CountFull)
             } else {
                 Ok(Place::Known(at))
@@ -156,11 +163,11 @@ pub fn hold_u32_table_entry(list: &mut LentListMut, entry: U32TableEntry) -> Res
 
 // Reasons 1 and 16 against ending a hold at a position.
 #[tactic(auto, unfolding(crate::specs::Holding::drop_reason, list::specs::Holds::hold_at))]
-fn judge_drop(list: &LentList, position: usize) -> Result<(), Refusal>
-    ensures { result ≡ drop_reason (held_in list.now) position }
+fn judge_drop(held: &LentList, position: usize) -> Result<(), Refusal>
+    ensures { result ≡ drop_reason (held_in held.now) position }
 {
-    list.held_shape()?;
-    if list.sizes.used <= position || list.holds[position] == 0 {
+    held.held_shape()?;
+    if held.list.sizes.used <= position || held.holds[position] == 0 {
         Err(Refusal::NoHold)
     } else {
         Ok(())
@@ -177,13 +184,12 @@ pub fn confirm_hold(
 ) -> Result<(), Refusal>
     ensures { Leaves (confirm_all (held_list sizes keys.now multiplicities.old holds.old) position) (completed_answer result) (held_list sizes keys.now multiplicities.new holds.new) }
 {
-    let list = LentList {
+    let list = LentCounts {
         sizes,
         keys,
         multiplicities,
-        holds,
     };
-    judge_drop(&list, position)?;
+    judge_drop(&LentList { list, holds }, position)?;
     if list::one_more_is_full(multiplicities[position], 0) {
         return Err(Refusal::CountFull);
     }
@@ -202,13 +208,12 @@ pub fn drop_hold(
 ) -> Result<(), Refusal>
     ensures { Leaves (drop_all (held_list sizes keys.now multiplicities.now holds.old) position) (completed_answer result) (held_list sizes keys.now multiplicities.now holds.new) }
 {
-    let list = LentList {
+    let list = LentCounts {
         sizes,
         keys,
         multiplicities,
-        holds,
     };
-    judge_drop(&list, position)?;
+    judge_drop(&LentList { list, holds }, position)?;
     holds[position] -= 1;
     Ok(())
 }

@@ -25,7 +25,7 @@ fn bucket(key: U32TableEntry) -> usize
 
 // Whether two of the first n entries are equal, as admission hands them back. Each is compared with those before it in its bucket. The places
 // of a bucket are linked, from the last to the first: `heads` has the last of each bucket and `links` the one before each place.
-// No HashSet: nothing here allocates. Places fit 16 bits, and so half as many bytes are set at the start.
+// No HashSet: nothing here allocates. Places fit 16 bits: an `Option<u16>` takes 4 bytes, an `Option<usize>` 16, and each call sets them all at its start.
 // Keys, and how many: as `list::UsedPlaces` it would ask for multiplicities too, at which it does not look.
 pub fn has_repeats(keys: &[u64], n: usize) -> bool
     requires { (n ≤ max_places) × (entry_width * n ≤ length keys.now) }

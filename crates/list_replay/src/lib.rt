@@ -97,16 +97,19 @@ fn step_at(trace: &[u64], i: usize) -> Step
     }
 }
 
+// The step records one entry.
+fn one(opcode: Opcode, first: u64, second: u64) -> Result<StepEntries, Refusal>
+    ensures { result ≡ Ok (One (entry (opcode_number opcode) first second)) }
+{
+    Ok(StepEntries::One(U32TableEntry::new(opcode as u64, first, second)))
+}
+
 // Both halves of a value below p.
 fn split_step(value: u64) -> Result<StepEntries, Refusal>
     ensures { result ≡ split_step value }
 {
     if value < BFieldElement::P {
-        Ok(StepEntries::One(U32TableEntry::new(
-            Opcode::Split as u64,
-            value % OPERAND_LIMIT,
-            value / OPERAND_LIMIT,
-        )))
+        one(Opcode::Split, value % OPERAND_LIMIT, value / OPERAND_LIMIT)
     } else {
         Err(Refusal::Wide)
     }
@@ -132,17 +135,10 @@ fn merkle_step(index: u64) -> Result<StepEntries, Refusal>
     ensures { result ≡ merkle_step index }
 {
     if index < OPERAND_LIMIT {
-        Ok(StepEntries::One(U32TableEntry::new(Opcode::Split as u64, index, index / 2)))
+        one(Opcode::Split, index, index / 2)
     } else {
         Err(Refusal::Wide)
     }
-}
-
-// The entry of one of the six, with a second value or with 0.
-fn one(opcode: Opcode, first: u64, second: u64) -> Result<StepEntries, Refusal>
-    ensures { result ≡ Ok (One (entry (opcode_number opcode) first second)) }
-{
-    Ok(StepEntries::One(U32TableEntry::new(opcode as u64, first, second)))
 }
 
 // What a step of one of the six records.

@@ -2,16 +2,14 @@
 // the other's: it does to its own what the call alone does, and at the places that have come into use the other has no count and no hold.
 #![tactic(auto)]
 
-ghost use Rattle.std.specs.Prelude.{◌≡◌, ◌&&◌, eqb, length};
+ghost use Rattle.std.specs.Prelude.{◌≡◌, IfErr, OnOk, IsErrAnd};
 ghost use Rattle.std.specs.Fn.{FnOnceReturnsAtMut};
-ghost use Rattle.words.specs.Answers.{Answer};
-ghost use Rattle.words.specs.Outcomes.{Outcome, Leaves};
-ghost use Rattle.list.specs.Holds.{HeldList};
+ghost use Rattle.words.specs.Outcomes.{Leaves};
 ghost use Rattle.list.specs.Lent.{held_in_mut, SameArrays};
 ghost use Rattle.list_record.specs.Recording.{recorded_answer};
 ghost use Rattle.list_replay.specs.Replay.{replayed_answer};
 ghost use Rattle.list_stored.specs.Stored.{read_answer};
-ghost use Rattle.list_shared.specs.Shared.{cleared, beside, record_shared, hold_shared, replay_shared, read_shared};
+ghost use Rattle.list_shared.specs.Shared.{other_shape, cleared, record_shared, hold_shared, replay_shared, read_shared};
 ghost use Rattle.list_shared.specs.Lent.{counts_in, shared, SameCounts};
 
 use isa::U32TableEntry;
@@ -27,11 +25,17 @@ pub struct OtherCounts<'a> {
 }
 
 impl OtherCounts<'_> {
-    // Whether both arrays have a word a place.
-    fn fits(&self, capacity: usize) -> bool
-        ensures { result ≡ (eqb (length self.now.multiplicities.now) capacity && eqb (length self.now.holds.now) capacity) }
+    // Reason 1: not one word a place in both arrays.
+    #[tactic(auto, unfolding(crate::specs::Shared::other_shape))]
+    fn other_shape(&self, list: &LentListMut) -> Result<(), Refusal>
+        ensures { result ≡ other_shape (held_in_mut list.now) (counts_in self.now) }
     {
-        self.multiplicities.len() == capacity && self.holds.len() == capacity
+        let capacity = list.sizes.capacity;
+        if self.multiplicities.len() == capacity && self.holds.len() == capacity {
+            Ok(())
+        } else {
+            Err(Refusal::Shape)
+        }
     }
 
     // At places `from` to `to` − 1 there is no count and no hold.
@@ -45,25 +49,19 @@ impl OtherCounts<'_> {
     }
 }
 
-// A call of one of the two, with the other's arrays beside it: where these are of the wrong shape the answer is `wrong`, and nothing is changed. What is cleared
-// goes by the places, and not by the answer.
-fn call_beside<A: Drop, F: FnOnce(&mut LentListMut) -> A>(
+// A call of one of the two, with the other's arrays beside it: where these are of the wrong shape it is refused, and nothing is changed. What is cleared goes by
+// the places, and not by the answer.
+fn call_beside<A, E: From<Refusal>, F: FnOnce(&mut LentListMut) -> Result<A, E>>(
     list: &mut LentListMut,
     other: &mut OtherCounts,
-    wrong: A,
     call: F,
-) -> A
-    ghost due: { (A → Answer) × Outcome HeldList }
-    requires callable { F.IsAlwaysCallable call }
-    requires does { (r : A) (left : LentListMut) → FnOnceReturnsAtMut F.FnOnce call list.old r left
-        → Leaves due.1 (due.0 r) (held_in_mut left) × SameArrays list.old left }
-    ensures outcome { Leaves (beside (due.0 wrong) due.1 (held_in_mut list.old) (counts_in other.old)) (due.0 result) (shared (held_in_mut list.new) (counts_in other.new)) }
-    ensures same_arrays { SameArrays list.old list.new }
+) -> Result<A, E>
+    requires { F.IsAlwaysCallable call }
+    ensures refused { IfErr (other_shape (held_in_mut list.old) (counts_in other.old)) (λ reason. IsErrAnd result (E.from_gives reason) × (list.new ≡ list.old) × (counts_in other.new ≡ counts_in other.old)) }
+    ensures called { OnOk (other_shape (held_in_mut list.old) (counts_in other.old)) (FnOnceReturnsAtMut F.FnOnce call list.old result list.new × (counts_in other.new ≡ cleared list.old.sizes.used list.new.sizes.used (counts_in other.old))) }
     ensures same_counts { SameCounts other.old other.new }
 {
-    if !other.fits(list.sizes.capacity) {
-        return wrong;
-    }
+    other.other_shape(list)?;
     let from = list.sizes.used;
     let answer = call(list);
     other.clear(from, list.sizes.used);
@@ -84,7 +82,6 @@ pub fn record_shared(
     call_beside(
         list,
         other,
-        Err(Refusal::Shape),
         |list| list_record::record_u32_table_entry(list, entry),
     )
 }
@@ -103,7 +100,6 @@ pub fn hold_shared(
     call_beside(
         list,
         other,
-        Err(Refusal::Shape),
         |list| list_record::hold_u32_table_entry(list, entry),
     )
 }
@@ -119,12 +115,7 @@ pub fn replay_shared(
     ensures same_arrays { SameArrays list.old list.new }
     ensures same_counts { SameCounts other.old other.new }
 {
-    call_beside(
-        list,
-        other,
-        Err(Stopped::from(Refusal::Shape)),
-        |list| list_replay::replay(list, trace),
-    )
+    call_beside(list, other, |list| list_replay::replay(list, trace))
 }
 
 // Stored bytes read by one of the two.
@@ -138,10 +129,5 @@ pub fn read_shared(
     ensures same_arrays { SameArrays list.old list.new }
     ensures same_counts { SameCounts other.old other.new }
 {
-    call_beside(
-        list,
-        other,
-        Err(Refusal::Shape),
-        |list| list_stored::read_list(bytes, list),
-    )
+    call_beside(list, other, |list| list_stored::read_list(bytes, list))
 }

@@ -51,6 +51,13 @@ read_reason h s =
     (or_else (decline_if (ltb (capacity h.list) (stored_n s) || ltb 0 (used h.list)) ListFull)
     (content_reason s)))
 
+-- the list of the entries that bytes hold
+abbrev pub content_list : List ℕ → U32List
+content_list s =
+    u32_list (record { capacity = stored_n s; used = stored_n s })
+    (flat_map (λ i. entry_words (stored_entry s i)) (places (stored_n s)))
+    (map (stored_multiplicity s) (places (stored_n s)))
+
 -- the bytes as a stored list where there is no reason against it, else the reason
 abbrev pub TakenUnless : Judgement → List ℕ → Result StoredList Refusal → Type 0
 TakenUnless reason s result = MatchResult result (λ stored. (stored.bytes.now ≡ s) × (reason ≡ Fine)) (λ k. reason ≡ Declined k)

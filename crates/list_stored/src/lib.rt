@@ -5,12 +5,11 @@ ghost use Rattle.std.specs.Prelude.{◌≡◌, ◌≤◌};
 ghost use Rattle.words.specs.Limits.{max_places};
 ghost use Rattle.words.specs.Outcomes.{Leaves};
 ghost use Rattle.list.specs.Heights.{list_height};
-ghost use Rattle.list.specs.Lent.{counts_in, held_in, held_in_mut, SameArrays};
+ghost use Rattle.list.specs.Lent.{counts_in, copied_in, held_in, held_in_mut, SameArrays};
 ghost use Rattle.list_bytes.specs.Packed.{multiplicity_width, length_with};
-ghost use Rattle.list_stored.specs.Stored.{torn, content_reason, read_reason, TakenUnless, read_all, read_answer, storing_reason, stored_as, write_all, written_answer};
+ghost use Rattle.list_stored.specs.Stored.{torn, content_list, content_reason, read_reason, TakenUnless, read_all, read_answer, storing_reason, stored_as, write_all, written_answer};
 
-use isa::U32TableEntry;
-use list::{Counted, LentCounts, LentList, LentListMut, Sizes, UsedPlaces};
+use list::{Copied, LentList, LentListMut, UsedPlaces};
 use list_bytes::StoredList;
 use words::{MAX_PLACES, Refusal};
 
@@ -23,6 +22,7 @@ fn length_with(width: usize, n: usize) -> usize
 }
 
 // The bytes with their number of entries. Reason 10: they are not as many as that number says, in the new form or in the old, or it is too large.
+// Which form they have is not handed on: a field for it would ask more of who makes a `StoredList`.
 fn stored_list(bytes: &[u8]) -> Result<StoredList<'_>, Refusal>
     ensures { TakenUnless (torn bytes.now) bytes.now result }
 {
@@ -42,26 +42,23 @@ fn stored_list(bytes: &[u8]) -> Result<StoredList<'_>, Refusal>
     Err(Refusal::Torn)
 }
 
+// The copy becomes one of the entries that the bytes hold. It is filled where it stands.
+fn copy_entries(stored: &StoredList, copied: &mut Copied)
+    ensures { copied_in copied.new ≡ content_list stored.now.bytes.now }
+{
+    stored.unpack(&mut copied.keys, &mut copied.multiplicities);
+    copied.used = stored.n;
+}
+
 // Reasons 2 to 5 entry by entry, 11 and 12 against what the bytes hold. It is judged on a copy, by the rule of stored bytes.
 fn judge_content(stored: &StoredList) -> Result<(), Refusal>
     ensures { result ≡ content_reason stored.now.bytes.now }
 {
-    // Two arrays and no `list::Counted`, whose places are counted ones: here a multiplicity may be 0.
-    let mut keys = [0u64; U32TableEntry::WIDTH * MAX_PLACES];
-    let mut multiplicities = [0u64; MAX_PLACES];
-    stored.unpack(&mut keys, &mut multiplicities);
-    let places = UsedPlaces {
-        list: LentCounts {
-            sizes: Sizes {
-                capacity: MAX_PLACES,
-                used: stored.n,
-            },
-            keys: &keys,
-            multiplicities: &multiplicities,
-        },
-    };
-    let height = places.judge_places(true)?;
-    if list_repeats::has_repeats(&keys, stored.n) {
+    let mut copied = Copied::none();
+    copy_entries(stored, &mut copied);
+    let content = copied.lent();
+    let height = content.judge_places(true)?;
+    if list_repeats::has_repeats(content.list.keys, content.list.sizes.used) {
         return Err(Refusal::Repeat);
     }
     if list_bytes::stored_height(stored.bytes) == height {
@@ -72,15 +69,15 @@ fn judge_content(stored: &StoredList) -> Result<(), Refusal>
 }
 
 // What the list is to be, or the first reason against reading the bytes into it.
-fn judge_reading<'a>(bytes: &'a [u8], list: &LentList) -> Result<StoredList<'a>, Refusal>
-    ensures { TakenUnless (read_reason (held_in list.now) bytes.now) bytes.now result }
+fn judge_reading<'a>(bytes: &'a [u8], held: &LentList) -> Result<StoredList<'a>, Refusal>
+    ensures { TakenUnless (read_reason (held_in held.now) bytes.now) bytes.now result }
 {
-    list.held_shape()?;
+    held.held_shape()?;
     let stored = stored_list(bytes)?;
-    if list.sizes.capacity < stored.n {
+    if held.list.sizes.capacity < stored.n {
         return Err(Refusal::ListFull);
     }
-    if 0 < list.sizes.used {
+    if 0 < held.list.sizes.used {
         return Err(Refusal::ListFull);
     }
     judge_content(&stored)?;
@@ -120,7 +117,7 @@ fn store(places: &UsedPlaces, height: u64, out: &mut [u8]) -> Result<usize, Refu
 pub fn write_list(list: &LentList, out: &mut [u8]) -> Result<usize, Refusal>
     ensures { Leaves (write_all (held_in list.now) out.old) (written_answer result) out.new }
 {
-    let mut counted = Counted::none();
-    let height = list.judge_counted(&mut counted)?;
+    let mut counted = Copied::none();
+    let height = list.judge_and_gather(&mut counted)?;
     store(&counted.lent(), height, out)
 }

@@ -58,23 +58,28 @@ occurs_not v (w ∷ ws) e (suc j) h = occurs_not v ws (or_parts (eqb w v) (occur
 
 -- the 256 keys of a run
 abbrev pub run_of : (keys : List ℕ) (run : ℕ) → List ℕ
-run_of keys run = take (256 * run + 256 - 256 * run) (drop (256 * run) keys)
+run_of keys run = take 256 (drop (run * 256) keys)
 
-module _ (keys : List ℕ) (v : ℕ) where
-  not_in_run : (run j : ℕ) → 256 * run + 256 ≤ length keys → occurs v (run_of keys run) ≡ false → j < 256 → get_or keys (256 * run + j) 0 ≢ v
+module _ (keys : List ℕ) (v n : ℕ) (within : n ≤ length keys) where
+  not_in_run : (run j : ℕ) → run * 256 + 256 ≤ n → occurs v (run_of (take n keys) run) ≡ false → j < 256 → get_or keys (256 * run + j) 0 ≢ v
   not_in_run run j h e b =
-      let many : 256 * run + 256 - 256 * run ≡ 256 = omega arith in
-      subst (λ (w : ℕ). w ≢ v) (get_or-take (256 * run + 256 - 256 * run) (drop (256 * run) keys) j 0 (omega arith) ∙ get_or-drop (256 * run) keys j 0)
+      let place : run * 256 + j ≡ 256 * run + j = omega arith in
+      subst (λ (w : ℕ). w ≢ v)
+      (get_or-take 256 (drop (run * 256) (take n keys)) j 0 (omega arith)
+      ∙ get_or-drop (run * 256) (take n keys) j 0
+      ∙ get_or-take n keys (run * 256 + j) 0 (omega arith)
+      ∙ ap (λ (i : ℕ). get_or keys i 0) place)
       (occurs_not v _ e j
-      (let d = length-drop (256 * run) keys in
-      let t = length-take-le (256 * run + 256 - 256 * run) (drop (256 * run) keys) (omega arith) in
+      (let all = length-take-le n keys within in
+      let d = length-drop (run * 256) (take n keys) in
+      let t = length-take-le 256 (drop (run * 256) (take n keys)) (omega arith) in
       omega arith))
 
   -- the first m runs, none of which holds the value
-  pub find_runs : (m n : ℕ) → 256 * m ≤ n → n ≤ length keys → ((k : ℕ) → k < m → occurs v (run_of keys k) ≡ false)
+  pub find_runs : (m : ℕ) → 256 * m ≤ n → ((k : ℕ) → k < m → occurs v (run_of (take n keys) k) ≡ false)
       → find_from keys v 0 n ≡ find_from keys v (256 * m) (n - 256 * m)
-  find_runs zero n h l none = ap (find_from keys v 0) (sym (sub-zero n))
-  find_runs (suc m) n h l none =
-      find_runs m n (omega arith) l (λ k b. none k (omega arith))
+  find_runs zero h none = ap (find_from keys v 0) (sym (sub-zero n))
+  find_runs (suc m) h none =
+      find_runs m (omega arith) (λ k b. none k (omega arith))
       ∙ find_misses keys v 256 (256 * m) n (omega arith) (λ j b. not_in_run m j (omega arith) (none m (omega arith)) b)
       ∙ ap (λ (j : ℕ). find_from keys v j (n - j)) (omega arith)

@@ -43,12 +43,20 @@ pub fn byte_lookup(byte: u8) -> u8
     BYTE_LOOKUP[usize::from(byte)]
 }
 
+// The high and the low byte of a 16-bit value.
+fn bytes_of(limb: u16) -> (usize, usize)
+    ensures { (result.0 ≡ high_byte limb) × (result.1 ≡ low_byte limb) }
+{
+    let [high, low] = limb.to_be_bytes();
+    (usize::from(high), usize::from(low))
+}
+
 // The output of a 16-bit value in a table of outputs: that of its high byte, then that of its low one.
 pub fn cascade_lookup_in(outputs: &[u8; 256], value: u16) -> u16
     ensures { result ≡ 256 * get_or outputs.now (high_byte value) 0 + get_or outputs.now (low_byte value) 0 }
 {
-    let [high, low] = value.to_be_bytes();
-    u16::from_be_bytes([outputs[usize::from(high)], outputs[usize::from(low)]])
+    let (high, low) = bytes_of(value);
+    u16::from_be_bytes([outputs[high], outputs[low]])
 }
 
 // The output of a 16-bit value.
@@ -108,10 +116,10 @@ fn find_value(keys: &[u16], n: usize, value: u16) -> Option<usize>
     requires { n ≤ length keys.now }
     ensures { MatchOption result (find_from keys.now value 0 n ≡ n) (λ at. (at < n) × (at ≡ find_from keys.now value 0 n)) }
 {
-    let runs = n / 256;
-    let passed = (0..runs)
-        .find(|run| holds(&keys[256 * *run..256 * *run + 256], value))
-        .unwrap_or(runs);
+    let passed = keys[..n]
+        .chunks_exact(256)
+        .position(|run| holds(run, value))
+        .unwrap_or(n / 256);
     (256 * passed..n).find(|place| keys[*place] == value)
 }
 
@@ -120,14 +128,6 @@ fn would_pass_limit(multiplicity: u64, more: u64) -> bool
     ensures { result ≡ count_full (multiplicity + more) }
 {
     list::count_full(multiplicity.saturating_add(more))
-}
-
-// The high and the low byte of a 16-bit value.
-fn bytes_of(limb: u16) -> (usize, usize)
-    ensures { (result.0 ≡ high_byte limb) × (result.1 ≡ low_byte limb) }
-{
-    let [high, low] = limb.to_be_bytes();
-    (usize::from(high), usize::from(low))
 }
 
 // Whether a new value would raise the multiplicity of one of its bytes past the limit: by two where they are equal.

@@ -131,7 +131,8 @@ fn has_sum_shape(places: usize, challenges: &[u64], aux: &[u64]) -> bool
     challenges.len() == LookupChallenges::WIDTH && aux.len() == AuxRow::WIDTH * places
 }
 
-// Reasons 8 and 9, in this order, else the sums are written; the multiplicities of the summands are given besides.
+// Reasons 8 and 9, in this order, else the sums are written. The multiplicities of the summands are given besides: `share` gives them as elements,
+// each with its denominator, and 8 is asked of the words before any denominator is worked out.
 #[tactic(auto, unfolding(crate::specs::LookupSums::places_reason))]
 fn sum_over<S: Summands>(
     summands: &S,

@@ -2,7 +2,7 @@
 // reading of a whole text in parts of any sizes, for every kind of sheet that takes the numbers.
 #![tactic(auto)]
 
-ghost use Rattle.std.specs.Prelude.{◌≡◌, ℕ, ◌≤◌, List, length, replicate, Ok};
+ghost use Rattle.std.specs.Prelude.{◌≡◌, ℕ, ◌≤◌, List, length, Ok};
 ghost use Rattle.numbers.specs.Numbers.{start_place, line_of_next, gap_step, digit_step, step_of};
 ghost use Rattle.numbers.specs.Sheets.{IsFed, Within, start_reader, take_ended, feed_byte, feed_all, end_number};
 
@@ -154,16 +154,6 @@ pub fn next(place: Place, byte: u8) -> Result<Step, u64>
         b'0'..=b'9' => digit_step(line, place.number.unwrap_or(0), (byte - b'0') as u64),
         _ => Err(line),
     }
-}
-
-// As many numbers as the longest text of a table has: 16, and ten for each of 16,384 rows. The crates that name these limits stand on this one.
-const MOST_NUMBERS: usize = 16 + 10 * 16384;
-
-// Room for the numbers of a table's text, as u32check and u32archive read it: all 0. u32batch has room of its own.
-pub fn room() -> [u64; MOST_NUMBERS]
-    ensures { result ≡ replicate 163856 0 }
-{
-    [0; MOST_NUMBERS]
 }
 
 // ---- a whole text

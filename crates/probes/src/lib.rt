@@ -15,49 +15,29 @@ ghost use Rattle.probes.specs.Probes.{products_fit, products_of, chain_of, inver
 use check_pairs::TRANSITION_COUNT;
 use check_rows::{CONSISTENCY_COUNT, INITIAL_COUNT, TERMINAL_COUNT};
 use field::BFieldElement;
-use table::{AuxRow, Challenges, MainRow};
+use table::{AuxRow, Challenges, MainRow, RowPair};
 use xfield::XFieldElement;
 
 // ---- the forty constraints on a pair of rows
-// Where each group but the first begins, and how many there are.
-const CONSISTENCY_FROM: usize = INITIAL_COUNT;
+const VALUES: usize = INITIAL_COUNT + CONSISTENCY_COUNT + TRANSITION_COUNT + TERMINAL_COUNT;
 
-const TRANSITION_FROM: usize = CONSISTENCY_FROM + CONSISTENCY_COUNT;
-
-const TERMINAL_FROM: usize = TRANSITION_FROM + TRANSITION_COUNT;
-
-const VALUES: usize = TERMINAL_FROM + TERMINAL_COUNT;
-
-// Stores extension elements, from element `from` on of an array that holds such.
-fn put_elements(words: &mut [u64], from: usize, elements: &[XFieldElement])
-    requires { 3 * (from + length elements.now) ≤ length words.old }
-    ensures { words.new ≡ sets words.old (3 * from) (words_of (map ext_of elements.now)) }
-{
-    for (i, element) in elements.iter().enumerate() {
-        table::put_element(words, from + i, *element);
-    }
-}
-
-fn put_all(
-    values: &mut [u64],
-    challenges: Challenges,
-    upper: MainRow,
-    lower: MainRow,
-    aux: AuxRow,
-    aux_next: AuxRow,
-)
+// Stores the values of all four groups, one after the other.
+fn put_all(values: &mut [u64], challenges: Challenges, pair: RowPair)
     requires { length values.old ≡ 120 }
-    ensures { values.new ≡ words_of (constraints_of (challenges_in challenges) (row_of upper) (row_of lower) (sum_of aux) (sum_of aux_next)) }
+    ensures { values.new ≡ words_of (constraints_of (challenges_in challenges) (row_of pair.upper) (row_of pair.lower) (sum_of pair.aux) (sum_of pair.aux_next)) }
 {
-    let initial = check_rows::initial_constraints(challenges, upper, aux);
-    let consistency = check_rows::consistency_constraints(upper);
-    let transition = check_pairs::transition_constraints(challenges, upper, lower, aux, aux_next);
-    let terminal = check_rows::terminal_constraints(upper);
-    // Group by group: one `for` over the four chained was tried, and its proof did not close, since `cc` stops before it knows what the chain yields.
-    put_elements(values, 0, &initial);
-    put_elements(values, CONSISTENCY_FROM, &consistency);
-    put_elements(values, TRANSITION_FROM, &transition);
-    put_elements(values, TERMINAL_FROM, &terminal);
+    let initial = check_rows::initial_constraints(challenges, pair.upper, pair.aux);
+    let consistency = check_rows::consistency_constraints(pair.upper);
+    let transition = check_pairs::transition_constraints(challenges, pair);
+    let terminal = check_rows::terminal_constraints(pair.upper);
+    let all = initial
+        .iter()
+        .chain(&consistency)
+        .chain(&transition)
+        .chain(&terminal);
+    for (i, value) in all.enumerate() {
+        table::put_element(values, i, *value);
+    }
 }
 
 // `rows` is an upper and a lower row, `aux` their sums. Three words a constraint: the initial one, fifteen consistency constraints and, at
@@ -82,14 +62,8 @@ pub extern "C" fn probe_constraints(
     {
         return 1;
     }
-    put_all(
-        values,
-        Challenges::from_words(challenges),
-        MainRow::at(rows, 0),
-        MainRow::at(rows, 1),
-        AuxRow::at(aux, 0),
-        AuxRow::at(aux, 1),
-    );
+    let pair = RowPair::at(rows, aux, 0);
+    put_all(values, Challenges::from_words(challenges), pair);
     0
 }
 
@@ -104,7 +78,8 @@ pub extern "C" fn probe_products(left: &[u64], right: &[u64], out: &mut [u64]) -
     if left.len() != out.len() || right.len() != out.len() {
         return 1;
     }
-    // By index, here and below: `zip` of `iter_mut`, and `as_chunks_mut`, were tried, and after such a loop a proof knows nothing of what was written.
+    // By index, here and below: with `zip` of `iter_mut`, and with `as_chunks_mut`, which were tried, the goal `returns-clause-products` stays open, for
+    // the invariant of such a loop has no name for `out`, and after it nothing is known of what was written.
     for (i, product) in out.iter_mut().enumerate() {
         *product = (BFieldElement(left[i]) * BFieldElement(right[i])).0;
     }

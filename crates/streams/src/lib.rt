@@ -2,7 +2,7 @@
 // error. Lines of a program's own for standard error.
 #![tactic(auto)]
 
-ghost use Rattle.std.specs.Prelude.{◌≡◌, true, OnOk};
+ghost use Rattle.std.specs.Prelude.{◌≡◌, true, is_ok, OnOk};
 ghost use Rattle.std.specs.Io.KnownBytes.{Appends};
 ghost use Rattle.streams.specs.Streams.{FilledIn, TakenFrom};
 
@@ -12,6 +12,14 @@ use std::io::{Cursor, Error, ErrorKind, Read, Write};
 
 // No program makes so many calls: a loop over them ends.
 pub const MOST_CALLS: u64 = 1152921504606846976;
+
+// The three streams of a program, which its `main` alone has.
+#[derive(Drop)]
+pub struct Streams<R, W, E> {
+    pub input: R,
+    pub output: W,
+    pub errors: E,
+}
 
 // Which of the two could not be read or written, and why.
 #[derive(Clone, Copy)]
@@ -73,11 +81,14 @@ pub fn write_all<W: Write>(output: &mut W, bytes: &[u8]) -> Result<(), Failure>
 pub fn write_or_tell<W: Write, E: Write>(output: &mut W, errors: &mut E, bytes: &[u8]) -> bool
     ensures { result ≡ true → Appends (W.contents output.old) (W.contents output.new) bytes.now }
 {
-    if let Err(failure) = write_all(output, bytes) {
-        tell(errors, &failure);
-        return false;
-    }
-    true
+    tell_unless_done(errors, write_all(output, bytes))
+}
+
+// Says on standard error what failed, where something did; answers whether all is done.
+pub fn tell_unless_done<E: Write>(errors: &mut E, done: Result<(), Failure>) -> bool
+    ensures { result ≡ is_ok done }
+{
+    done.inspect_err(|failure| tell(errors, failure)).is_ok()
 }
 
 // Says on standard error, in a line, what failed. Where that fails, there is no place left to say so.

@@ -1,7 +1,7 @@
 // The rows of the U32 table and its challenges, as types over the flat words that are lent.
 #![tactic(auto)]
 
-ghost use Rattle.std.specs.Prelude.{◌≡◌, true, ◌&&◌, ◌+◌, ◌*◌, ◌≤◌, length};
+ghost use Rattle.std.specs.Prelude.{◌≡◌, ◌&&◌, ◌+◌, ◌*◌, ◌≤◌, length};
 ghost use Rattle.std.proofs.lemmas.List.Edits.{sets};
 ghost use Rattle.xfield.specs.Extension.{words_x};
 ghost use Rattle.xfield.specs.XFieldElements.{ext_of};
@@ -9,7 +9,6 @@ ghost use Rattle.table.specs.Columns.{main_width, aux_width, row_at, element_at,
 ghost use Rattle.table.specs.Challenges.{challenge_words, challenges_of, challenges_shape, denominator, row_denominator};
 ghost use Rattle.table.specs.Layouts.{row_of, sum_of, challenges_in};
 ghost use Rattle.table.specs.RowWords.{row_words};
-ghost use Rattle.table.specs.Tens.{TenBelow};
 
 use field::BFieldElement;
 use words::MAX_ROWS;
@@ -22,14 +21,6 @@ pub fn all_reduced(words: &[u64]) -> bool
     words
         .iter()
         .fold(true, |all, word| all & (*word < BFieldElement::P))
-}
-
-// Yes: the ten words from `at` on are below p.
-pub fn are_ten_reduced(words: &[u64], at: usize) -> bool
-    requires { at + 10 ≤ length words.now }
-    ensures { result ≡ true → TenBelow words.now at }
-{
-    all_reduced(&words[at..at + 10])
 }
 
 // A row of the main table: its ten columns.
@@ -164,6 +155,34 @@ impl AuxRow {
     }
 }
 
+// A row and the row below it, with the aux rows of both.
+#[derive(Clone, Copy)]
+pub struct RowPair {
+    pub upper: MainRow,
+    pub lower: MainRow,
+    pub aux: AuxRow,
+    pub aux_next: AuxRow,
+}
+
+impl RowPair {
+    // Rows i and i + 1 of a table's words and of its aux words.
+    pub fn at(table: &[u64], aux: &[u64], i: usize) -> Self
+        requires rows { main_width * (i + 1) + main_width ≤ length table.now }
+        requires sums { aux_width * (i + 1) + aux_width ≤ length aux.now }
+        ensures upper { row_of result.upper ≡ row_at table.now i }
+        ensures lower { row_of result.lower ≡ row_at table.now (i + 1) }
+        ensures sum { sum_of result.aux ≡ aux_at aux.now i }
+        ensures sum_next { sum_of result.aux_next ≡ aux_at aux.now (i + 1) }
+    {
+        RowPair {
+            upper: MainRow::at(table, i),
+            lower: MainRow::at(table, i + 1),
+            aux: AuxRow::at(aux, i),
+            aux_next: AuxRow::at(aux, i + 1),
+        }
+    }
+}
+
 // The challenges of the U32 table: five extension elements.
 #[derive(Clone, Copy)]
 pub struct Challenges {
@@ -227,7 +246,8 @@ impl Challenges {
     }
 }
 
-// Whole rows and not too many, three aux words a row, fifteen challenge words.
+// Whole rows and not too many, three aux words a row, fifteen challenge words. Lent one by one, since `extend` writes aux and the check none of
+// the three: a struct would be made for this test alone.
 pub fn have_shapes(table: &[u64], aux: &[u64], challenges: &[u64]) -> bool
     ensures { result ≡ (table_shape table.now && (aux_shape table.now aux.now && challenges_shape challenges.now)) }
 {

@@ -1,5 +1,6 @@
-// The text of a sheet (crate numbers), read from standard input in parts as it comes, for the programs that take one. No contract can say which
-// bytes are read; this one says that the numbers of the text have places among the lent words.
+// The text of a sheet (crate numbers), read from standard input in parts as it comes, for the programs that take one. Which bytes are read no contract
+// can say of standard input; of a reader that knows its bytes `streams::read_full` says it. Here the contracts say that the numbers of the text have
+// places among the lent words.
 #![tactic(auto)]
 
 ghost use Rattle.std.specs.Prelude.{◌≡◌, ◌≤◌, length, true, OnOk};
@@ -7,7 +8,7 @@ ghost use Rattle.table_input.specs.Reads.{ReadWithin, AnswerWritten};
 
 use numbers::{Answered, Fault, Reader, Sheet};
 use std::io::{Error, ErrorKind, Read, Write};
-use streams::{Failure, MOST_CALLS};
+use streams::{Failure, MOST_CALLS, Streams};
 
 // Reads the whole text. It is over where a part is not full, and the rest does not count after a fault.
 // That there are words enough, and places for the numbers, stay clauses: `numbers::feed` and `Fits` say why.
@@ -49,21 +50,15 @@ pub fn answer<S: Answered, R: Read, W: Write>(
 }
 
 // The same, and where the text can't be read or the answer can't be written, says so on standard error; answers whether the answer is written.
-// The three streams are parameters: a program's `main` alone has them.
 pub fn answer_or_tell<S: Answered, R: Read, W: Write, E: Write>(
     start: Reader<S>,
-    input: &mut R,
-    output: &mut W,
-    errors: &mut E,
+    streams: &mut Streams<R, W, E>,
     words: &mut [u64],
     out: &mut [u8],
 ) -> bool
     requires { (S.room ≤ length words.old) × (S.longest ≤ length out.old) × S.Fits start.sheet }
-    ensures { result ≡ true → AnswerWritten S.Fits S.answer (W.contents output.old) (W.contents output.new) }
+    ensures { result ≡ true → AnswerWritten S.Fits S.answer (W.contents streams.old.output) (W.contents streams.new.output) }
 {
-    if let Err(failure) = answer(start, input, output, words, out) {
-        streams::tell(errors, &failure);
-        return false;
-    }
-    true
+    let done = answer(start, &mut streams.input, &mut streams.output, words, out);
+    streams::tell_unless_done(&mut streams.errors, done)
 }

@@ -23,6 +23,9 @@ pub const HEAD: usize = ROWS_AT + 1;
 // More rows are not taken.
 pub const MAX_ROWS: u64 = 16384;
 
+// The numbers of the longest text.
+const MAX_WORDS: usize = HEAD + MainRow::WIDTH * MAX_ROWS as usize;
+
 // No answer is longer.
 pub const MAX_ANSWER: usize = 256;
 
@@ -75,6 +78,13 @@ pub fn start() -> Reader<TableSheet>
         count: 0,
         due: HEAD,
     })
+}
+
+// Room for the numbers of the longest text: all 0.
+pub fn room() -> [u64; MAX_WORDS]
+    ensures { result ≡ replicate max_words 0 }
+{
+    [0; MAX_WORDS]
 }
 
 // What a text is that ended so: a table of so many rows, where no number is missing.

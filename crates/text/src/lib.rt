@@ -139,6 +139,7 @@ impl<'a> Text<'a> {
     }
 
     // Puts the line of a refusal with this number.
+    // Any number may be given, as the group above: `put_refused`, which takes a `Refusal`, promises nothing of any other.
     pub fn put_refused_number(&mut self, number: u64)
         requires { HasRoom self.old (length (refused_line number)) }
         ensures { Adds self.old (refused_line number) self.new }

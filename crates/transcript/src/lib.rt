@@ -120,18 +120,18 @@ fn put_filled(
 // Fills a lent table with the rows of a list, and puts its text.
 fn put_calls(
     text: &mut Text,
-    list: &LentList,
+    held: &LentList,
     heights: Heights,
     challenges: &[u64],
     table: &mut [u64],
     aux: &mut [u64],
 ) -> Result<(), Refusal>
     requires { Printable text.old table.old heights.padded }
-    ensures { Prints text.old (calls_text (held_in list.now) challenges.now heights.height heights.padded table.old aux.old) result text.new }
+    ensures { Prints text.old (calls_text (held_in held.now) challenges.now heights.height heights.padded table.old aux.old) result text.new }
 {
-    fill::fill(list, table)?;
+    fill::fill(held, table)?;
     let head = Head {
-        entries: list.sizes.used as u64,
+        entries: held.list.sizes.used as u64,
         height: heights.height,
         padded: heights.padded,
     };

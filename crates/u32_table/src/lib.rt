@@ -1,7 +1,9 @@
-// The calls of document 01 as C functions on numbers and slices: include/u32_table.h describes them. Each returns document 01's number, 0 for done.
+// The calls of document 01 and of the requests as C functions on numbers and slices: include/u32_table.h describes them. Each returns the number of the documents, 0 for
+// done.
 // Further answers go into `answers`, a lent array of words: with fewer words than the call states it is refused with 1 before anything else is
 // looked at; on every other refusal it is untouched, but for u32_table_replay, which says on a refusal too how many steps were done. Its words past
-// those stated are always untouched. That parameters are flat, refusals numbers and answers words of a lent array is the C interface.
+// those stated are always untouched. That parameters are flat, refusals numbers and answers words of a lent array is the C interface: here the
+// parameters become the structs that the calls take.
 #![tactic(auto)]
 
 ghost use Rattle.std.specs.Prelude.{◌≡◌};
@@ -20,6 +22,11 @@ ghost use Rattle.lookup.specs.Cascades.{look_up_all};
 ghost use Rattle.lookup_sums.specs.LookupSums.{byte_sum_all, cascade_sum_all};
 ghost use Rattle.archive.specs.Archives.{archive_all, restore_all};
 ghost use Rattle.c_lookups.specs.LookupAnswers.{lent_cascade, lent_lookups, looked_up_due, byte_output_due, cascade_output_due};
+
+use isa::U32TableEntry;
+use list::{LentCounts, LentList, LentListMut, Sizes};
+use list_shared::OtherCounts;
+use lookup::{LentCascade, LentLookupsMut};
 
 // The number of these signatures. It is raised whenever one of them changes, and not where a function is added: here, in the name below, in include/u32_table.h and in the Rust
 // crate. Both name the symbol, so a program does not link with a library of other signatures.
@@ -50,19 +57,18 @@ pub extern "C" fn u32_table_record(
     ensures answers { RecordAnswers (lent_list capacity used keys.old multiplicities.old holds.old) (counts other_multiplicities.old other_holds.old) (entry opcode left_operand right_operand) answers.old result answers.new }
     ensures list { RecordLeaves (lent_list capacity used keys.old multiplicities.old holds.old) (counts other_multiplicities.old other_holds.old) (entry opcode left_operand right_operand) answers.old keys.new multiplicities.new holds.new (counts other_multiplicities.new other_holds.new) }
 {
-    c_lists::record_entry(
-        capacity,
-        used,
+    let mut list = LentListMut {
+        sizes: Sizes { capacity, used },
         keys,
         multiplicities,
         holds,
-        other_multiplicities,
-        other_holds,
-        opcode,
-        left_operand,
-        right_operand,
-        answers,
-    )
+    };
+    let mut other = OtherCounts {
+        multiplicities: other_multiplicities,
+        holds: other_holds,
+    };
+    let entry = U32TableEntry::new(opcode, left_operand, right_operand);
+    c_lists::record_entry(&mut list, &mut other, entry, answers)
 }
 
 // Answers: the key's position, and the places used afterwards.
@@ -83,19 +89,18 @@ pub extern "C" fn u32_table_hold(
     ensures answers { HoldAnswers (lent_list capacity used keys.old multiplicities.old holds.old) (counts other_multiplicities.old other_holds.old) (entry opcode left_operand right_operand) answers.old result answers.new }
     ensures list { HoldLeaves (lent_list capacity used keys.old multiplicities.old holds.old) (counts other_multiplicities.old other_holds.old) (entry opcode left_operand right_operand) answers.old keys.new multiplicities.new holds.new (counts other_multiplicities.new other_holds.new) }
 {
-    c_lists::hold_entry(
-        capacity,
-        used,
+    let mut list = LentListMut {
+        sizes: Sizes { capacity, used },
         keys,
         multiplicities,
         holds,
-        other_multiplicities,
-        other_holds,
-        opcode,
-        left_operand,
-        right_operand,
-        answers,
-    )
+    };
+    let mut other = OtherCounts {
+        multiplicities: other_multiplicities,
+        holds: other_holds,
+    };
+    let entry = U32TableEntry::new(opcode, left_operand, right_operand);
+    c_lists::hold_entry(&mut list, &mut other, entry, answers)
 }
 
 // It has no answers besides the number.
@@ -110,7 +115,8 @@ pub extern "C" fn u32_table_confirm(
 ) -> u64
     ensures { ConfirmLeaves (lent_list capacity used keys.now multiplicities.old holds.old) position result multiplicities.new holds.new }
 {
-    c_lists::confirm(capacity, used, keys, multiplicities, holds, position)
+    let sizes = Sizes { capacity, used };
+    c_lists::confirm(sizes, keys, multiplicities, holds, position)
 }
 
 // It has no answers besides the number.
@@ -125,7 +131,8 @@ pub extern "C" fn u32_table_drop(
 ) -> u64
     ensures { DropLeaves (lent_list capacity used keys.now multiplicities.now holds.old) position result holds.new }
 {
-    c_lists::drop_hold(capacity, used, keys, multiplicities, holds, position)
+    let sizes = Sizes { capacity, used };
+    c_lists::drop_hold(sizes, keys, multiplicities, holds, position)
 }
 
 // Answers, on a refusal too: the steps done, and the places used afterwards.
@@ -144,17 +151,17 @@ pub extern "C" fn u32_table_replay(
     ensures answers { ReplayAnswers (lent_list capacity used keys.old multiplicities.old holds.old) (counts other_multiplicities.old other_holds.old) trace.now answers.old result answers.new }
     ensures list { ReplayLeaves (lent_list capacity used keys.old multiplicities.old holds.old) (counts other_multiplicities.old other_holds.old) trace.now answers.old keys.new multiplicities.new holds.new (counts other_multiplicities.new other_holds.new) }
 {
-    c_lists::replay(
-        capacity,
-        used,
+    let mut list = LentListMut {
+        sizes: Sizes { capacity, used },
         keys,
         multiplicities,
         holds,
-        other_multiplicities,
-        other_holds,
-        trace,
-        answers,
-    )
+    };
+    let mut other = OtherCounts {
+        multiplicities: other_multiplicities,
+        holds: other_holds,
+    };
+    c_lists::replay(&mut list, &mut other, trace, answers)
 }
 
 // Answers: 0 where the first entry is less, 1 where the two are equal, 2 where it is greater.
@@ -170,15 +177,9 @@ pub extern "C" fn u32_table_compare(
 ) -> u64
     ensures { Exported 1 (compare_all (entry opcode left_operand right_operand) (entry other_opcode other_left_operand other_right_operand)) answers.old result answers.new }
 {
-    c_lists::compare(
-        opcode,
-        left_operand,
-        right_operand,
-        other_opcode,
-        other_left_operand,
-        other_right_operand,
-        answers,
-    )
+    let entry = U32TableEntry::new(opcode, left_operand, right_operand);
+    let other = U32TableEntry::new(other_opcode, other_left_operand, other_right_operand);
+    c_lists::compare(entry, other, answers)
 }
 
 // Answers: the height and the padded height.
@@ -193,7 +194,15 @@ pub extern "C" fn u32_table_plan(
 ) -> u64
     ensures { PlanAnswers (lent_list capacity used keys.now multiplicities.now holds.now) answers.old result answers.new }
 {
-    c_lists::plan(capacity, used, keys, multiplicities, holds, answers)
+    let list = LentList {
+        list: LentCounts {
+            sizes: Sizes { capacity, used },
+            keys,
+            multiplicities,
+        },
+        holds,
+    };
+    c_lists::plan(&list, answers)
 }
 
 // Answers: the number of entries, which is the number of places used afterwards.
@@ -212,17 +221,17 @@ pub extern "C" fn u32_table_read(
     ensures answers { ReadAnswers (lent_list capacity used keys.old multiplicities.old holds.old) (counts other_multiplicities.old other_holds.old) bytes.now answers.old result answers.new }
     ensures list { ReadLeaves (lent_list capacity used keys.old multiplicities.old holds.old) (counts other_multiplicities.old other_holds.old) bytes.now answers.old keys.new multiplicities.new holds.new (counts other_multiplicities.new other_holds.new) }
 {
-    c_lists::read(
-        bytes,
-        capacity,
-        used,
+    let mut list = LentListMut {
+        sizes: Sizes { capacity, used },
         keys,
         multiplicities,
         holds,
-        other_multiplicities,
-        other_holds,
-        answers,
-    )
+    };
+    let mut other = OtherCounts {
+        multiplicities: other_multiplicities,
+        holds: other_holds,
+    };
+    c_lists::read(bytes, &mut list, &mut other, answers)
 }
 
 // Answers: the number of bytes written.
@@ -239,7 +248,15 @@ pub extern "C" fn u32_table_write(
     ensures answers { WriteAnswers (lent_list capacity used keys.now multiplicities.now holds.now) out.old answers.old result answers.new }
     ensures bytes { WriteLeaves (lent_list capacity used keys.now multiplicities.now holds.now) out.old answers.old out.new }
 {
-    c_lists::write(capacity, used, keys, multiplicities, holds, out, answers)
+    let list = LentList {
+        list: LentCounts {
+            sizes: Sizes { capacity, used },
+            keys,
+            multiplicities,
+        },
+        holds,
+    };
+    c_lists::write(&list, out, answers)
 }
 
 // Answers: the height.
@@ -256,7 +273,15 @@ pub extern "C" fn u32_table_fill(
     ensures answers { FillAnswers (lent_list capacity used keys.now multiplicities.now holds.now) table.old answers.old result answers.new }
     ensures table { FillLeaves (lent_list capacity used keys.now multiplicities.now holds.now) table.old answers.old table.new }
 {
-    c_tables::fill(capacity, used, keys, multiplicities, holds, table, answers)
+    let list = LentList {
+        list: LentCounts {
+            sizes: Sizes { capacity, used },
+            keys,
+            multiplicities,
+        },
+        holds,
+    };
+    c_tables::fill(&list, table, answers)
 }
 
 // It has no answers besides the number.
@@ -340,15 +365,13 @@ pub extern "C" fn u32_table_look_up(
     ensures multiplicities { multiplicities.new ≡ lent_due 1 answers.old multiplicities.old (look_up_all (lent_lookups capacity used keys.old multiplicities.old byte_multiplicities.old) limb).left.values.multiplicities }
     ensures bytes { byte_multiplicities.new ≡ lent_due 1 answers.old byte_multiplicities.old (look_up_all (lent_lookups capacity used keys.old multiplicities.old byte_multiplicities.old) limb).left.byte_multiplicities }
 {
-    c_lookups::look_up(
-        capacity,
-        used,
+    let mut tables = LentLookupsMut {
+        sizes: Sizes { capacity, used },
         keys,
         multiplicities,
         byte_multiplicities,
-        limb,
-        answers,
-    )
+    };
+    c_lookups::look_up(&mut tables, limb, answers)
 }
 
 // Answers: the output of the byte.
@@ -395,15 +418,12 @@ pub extern "C" fn u32_table_cascade_sum(
     ensures answers { Exported 3 (cascade_sum_all (lent_cascade capacity used keys.now multiplicities.now) challenges.now aux.old).answer answers.old result answers.new }
     ensures aux { aux.new ≡ lent_due 3 answers.old aux.old (cascade_sum_all (lent_cascade capacity used keys.now multiplicities.now) challenges.now aux.old).left }
 {
-    c_lookups::cascade_sum(
-        capacity,
-        used,
+    let cascade = LentCascade {
+        sizes: Sizes { capacity, used },
         keys,
         multiplicities,
-        challenges,
-        aux,
-        answers,
-    )
+    };
+    c_lookups::cascade_sum(&cascade, challenges, aux, answers)
 }
 
 // It has no answers besides the number.

@@ -10,22 +10,15 @@ ghost use Rattle.archive_text.specs.Packing.{max_archive};
 use archive_text::{MAX_ROW_LINE, TABLE_WORDS, Task};
 use std::env::{Env, FillError};
 use std::io::{Read, Write};
-use streams::Failure;
+use streams::{Failure, Streams};
 use table::{AuxRow, MainRow};
 use table_text::MAX_ANSWER;
 
 // So many rows are printed at a time: their lines fit a buffer of 65,536 bytes.
 const PART_ROWS: usize = 65536 / MAX_ROW_LINE;
 
-// What a program reads and writes.
-#[derive(Drop)]
-struct Streams<R, W, E> {
-    input: R,
-    output: W,
-    errors: E,
-}
-
 // Room for the words of a text or of a table, for the sums of its rows, and for the bytes of its archive.
+// A `Lent` in it was tried: the borrow checker does not cover a call that lends it beside `bytes`, nor one that lends a part of its words beside its sums.
 #[derive(Drop)]
 struct Room<'a> {
     words: &'a mut [u64],
@@ -53,7 +46,7 @@ fn print_part<R, W: Write, E: Write>(streams: &mut Streams<R, W, E>, table: &[u6
         .min(aux.len() / AuxRow::WIDTH)
         .min(PART_ROWS);
     let mut out = io::large_buffer();
-    let n = archive_text::put_rows(table, aux, 0, rows, &mut out);
+    let n = archive_text::put_rows(table, aux, rows, &mut out);
     streams::write_or_tell(&mut streams.output, &mut streams.errors, &out[..n]);
 }
 
@@ -131,7 +124,7 @@ fn run<R: Read, W: Write, E: Write>(
 
 // Words for 16 numbers and ten for each of 16,384 rows, for their sums, and the bytes of their archive.
 fn main(rt: HostRuntime) {
-    let mut words = numbers::room();
+    let mut words = table_text::room();
     let mut aux = archive_text::sums_room();
     let mut bytes = archive_text::room();
     let mut streams = Streams {
@@ -144,7 +137,6 @@ fn main(rt: HostRuntime) {
         aux: &mut aux,
         bytes: &mut bytes,
     };
-    if let Err(failure) = run(asked(&rt), &mut streams, &mut room) {
-        streams::tell(&mut streams.errors, &failure);
-    }
+    let done = run(asked(&rt), &mut streams, &mut room);
+    streams::tell_unless_done(&mut streams.errors, done);
 }

@@ -3,17 +3,16 @@
 #![tactic(auto)]
 
 use batch_text::{MAX_ANSWER, MAX_JOBS, MAX_SETTINGS};
+use streams::Streams;
 
 // 16 settings and 65,536 jobs.
 fn main(rt: HostRuntime) {
     let mut words = [0u64; MAX_SETTINGS + MAX_JOBS];
     let mut out = [0u8; MAX_ANSWER];
-    table_input::answer_or_tell(
-        batch_text::start(),
-        &mut rt.stdin(),
-        &mut rt.stdout(),
-        &mut rt.stderr(),
-        &mut words,
-        &mut out,
-    );
+    let mut streams = Streams {
+        input: rt.stdin(),
+        output: rt.stdout(),
+        errors: rt.stderr(),
+    };
+    table_input::answer_or_tell(batch_text::start(), &mut streams, &mut words, &mut out);
 }

@@ -17,7 +17,6 @@ fn run<R: Read, W: Write>(input: &mut R, output: &mut W) -> Result<(), Failure> 
 }
 
 fn main(rt: HostRuntime) {
-    if let Err(failure) = run(&mut rt.stdin(), &mut rt.stdout()) {
-        streams::tell(&mut rt.stderr(), &failure);
-    }
+    let done = run(&mut rt.stdin(), &mut rt.stdout());
+    streams::tell_unless_done(&mut rt.stderr(), done);
 }

@@ -1,13 +1,13 @@
 // The lists of vectors: their arrays stand here, and are lent to the calls.
-ghost use Rattle.std.specs.Prelude.{◌≡◌, true, nat_eq, min, replicate};
+ghost use Rattle.std.specs.Prelude.{◌≡◌, true, min, replicate};
+ghost use Rattle.std.specs.List.{AllWithin};
 ghost use Rattle.arrayvec.specs.ArrayVec.{array_vec_len};
 ghost use Rattle.list.specs.Holds.{held_list};
 ghost use Rattle.list.specs.Lent.{held_in, held_in_mut};
-ghost use Rattle.vectors.specs.Same.{same_first};
 
-use crate::{Numbers, same_first};
+use crate::Numbers;
 use arrayvec::ArrayVec;
-use list::{LentListMut, Sizes};
+use list::{LentCounts, LentListMut, Sizes};
 
 // A list in arrays that have room for K words of keys, and for M multiplicities and holds.
 #[derive(Drop)]
@@ -75,14 +75,12 @@ impl<const K: usize, const M: usize> LentList<K, M> {
 
     // Whether the sizes and the two arrays are those that come next, and nothing is held.
     pub fn is_next(&self, numbers: &mut Numbers<'_>) -> bool
-        ensures { result ≡ true → same_first nat_eq (array_vec_len self.now.holds) self.now.holds.items (replicate (min (array_vec_len self.now.holds) M) 0) ≡ true }
+        ensures { result ≡ true → AllWithin (λ hold. hold ≡ 0) self.now.holds.items 0 (array_vec_len self.now.holds) }
     {
-        let sizes = take_sizes(numbers);
-        let unheld = zeros::<M>(self.holds.len());
-        sizes == self.sizes
+        take_sizes(numbers) == self.sizes
             && numbers.words_are(&self.keys)
             && numbers.words_are(&self.multiplicities)
-            && same_first(&self.holds, &unheld, self.holds.len())
+            && self.holds.iter().all(|hold| *hold == 0)
     }
 
     // The list as it is lent, to be looked at.
@@ -90,9 +88,11 @@ impl<const K: usize, const M: usize> LentList<K, M> {
         ensures { held_in result ≡ held_list self.now.sizes self.now.keys.items self.now.multiplicities.items self.now.holds.items }
     {
         list::LentList {
-            sizes: self.sizes,
-            keys: &self.keys,
-            multiplicities: &self.multiplicities,
+            list: LentCounts {
+                sizes: self.sizes,
+                keys: &self.keys,
+                multiplicities: &self.multiplicities,
+            },
             holds: &self.holds,
         }
     }

@@ -8,15 +8,16 @@ use check_table::Verdict;
 use std::fmt;
 use vectors::{Counts, Numbers, number_of};
 
-// What a table is found. Of those that are nonzero the first constraint that is not zero is counted too: one of group g at the kind
-// FirstGroup + g.
+// What a table is found.
 #[derive(Clone, Copy)]
 enum Found {
     Zero = 1,
     Nonzero,
     Refused,
-    FirstGroup,
 }
+
+// Of a table that is nonzero the first constraint that is not zero is counted too: one of group g at the kind FIRST_GROUP + g.
+const FIRST_GROUP: usize = Found::Refused as usize + 1;
 
 const GROUPS: usize = 4;
 
@@ -36,7 +37,6 @@ impl fmt::Display for Found {
             Found::Zero => "zero",
             Found::Nonzero => "nonzero",
             Found::Refused => "refused",
-            Found::FirstGroup => "first nonzero constraints",
         })
     }
 }
@@ -59,15 +59,14 @@ fn run_line(mut numbers: Numbers<'_>, counts: &mut Counts) {
     let same = numbers.answer_is(answer);
     counts.tally(Found::from(verdict) as usize, number_of(&answer), same);
     if let Ok(Some(nonzero)) = verdict {
-        let kind = Found::FirstGroup as usize + nonzero.group as usize;
+        let kind = FIRST_GROUP + nonzero.group as usize;
         counts.tally(kind, nonzero.index as u64, true);
     }
 }
 
 // How many constraints were the first nonzero one of some table.
 fn first_constraints(counts: &Counts) -> usize {
-    let first = Found::FirstGroup as usize;
-    let groups = &counts.places[first..first + GROUPS];
+    let groups = &counts.places[FIRST_GROUP..FIRST_GROUP + GROUPS];
     groups.iter().flatten().filter(|n| 0 < **n).count()
 }
 
@@ -78,7 +77,7 @@ fn main(rt: HostRuntime) {
         run.counts.print(&rt, kind, kind as usize);
     }
     let firsts = first_constraints(&run.counts);
-    let _ = println!(rt; "{} {firsts}", Found::FirstGroup);
+    let _ = println!(rt; "first nonzero constraints {firsts}");
     for kind in kinds {
         let _ = print!(rt; "with the last word changed, ");
         run.changed.print(&rt, kind, kind as usize);

@@ -2,11 +2,13 @@
 // of them are zero. The original Rust prints the same lines; oracle/src/digests.rs describes the pairs and the digest.
 #![tactic(auto)]
 
+use check_pairs::TRANSITION_COUNT;
+use check_rows::{CONSISTENCY_COUNT, INITIAL_COUNT, TERMINAL_COUNT};
 use check_search::Group;
 use field::BFieldElement;
 use isa::Opcode;
 use std::array;
-use table::{AuxRow, Challenges, MainRow};
+use table::{AuxRow, Challenges, MainRow, RowPair};
 use xfield::XFieldElement;
 
 // ---- words
@@ -25,18 +27,39 @@ impl Draws {
     fn words<const N: usize>(&mut self) -> [u64; N] {
         array::from_fn(|_| self.word())
     }
-}
 
-// Each word modulo 3.
-fn make_small(words: &mut [u64]) {
-    for word in words {
-        *word %= 3;
+    fn row(&mut self) -> MainRow {
+        MainRow::at(&self.words::<{ MainRow::WIDTH }>(), 0)
+    }
+
+    fn aux_row(&mut self) -> AuxRow {
+        AuxRow::at(&self.words::<{ AuxRow::WIDTH }>(), 0)
+    }
+
+    fn challenges(&mut self) -> Challenges {
+        Challenges::from_words(&self.words::<{ Challenges::WIDTH }>())
     }
 }
 
+// ---- rows
+// A row of small words, and more bits.
+fn small_row(row: MainRow) -> MainRow {
+    let small = MainRow::at(&row.words().map(|word| word % 3), 0);
+    MainRow {
+        bits: small.bits + BFieldElement(32),
+        ..small
+    }
+}
+
+// An aux row of small words.
+fn small_aux(aux: AuxRow) -> AuxRow {
+    let words = aux.lookup_server_log_derivative.words();
+    AuxRow::at(&words.map(|word| word % 3), 0)
+}
+
 // Twice the lower operand, and the upper one's lowest bit.
-fn doubled(lower: u64, upper: u64) -> u64 {
-    (BFieldElement(2) * BFieldElement(lower) + BFieldElement(upper % 2)).0
+fn doubled(lower: BFieldElement, upper: BFieldElement) -> BFieldElement {
+    BFieldElement(2) * lower + BFieldElement(upper.0 % 2)
 }
 
 fn flag(which: u64, word: u64) -> u64 {
@@ -61,25 +84,28 @@ fn opcode(which: u64, word: u64) -> u64 {
 }
 
 // ---- pairs of rows
-// The words of a pair: two rows, one after the other, with their aux rows, and the challenges.
+// A pair of rows, and the challenges.
 #[derive(Drop)]
 struct Pair {
-    upper: [u64; 10],
-    upper_aux: [u64; 3],
-    lower: [u64; 10],
-    lower_aux: [u64; 3],
-    weights: [u64; 15],
+    rows: RowPair,
+    challenges: Challenges,
 }
 
 impl Pair {
-    // Pair k, drawn where the one before ended.
+    // Pair k, drawn where the one before ended: each row and then its aux row, the challenges last.
     fn draw(k: u64, draws: &mut Draws) -> Self {
+        let upper = draws.row();
+        let aux = draws.aux_row();
+        let lower = draws.row();
+        let aux_next = draws.aux_row();
         let mut pair = Pair {
-            upper: draws.words(),
-            upper_aux: draws.words(),
-            lower: draws.words(),
-            lower_aux: draws.words(),
-            weights: draws.words(),
+            rows: RowPair {
+                upper,
+                lower,
+                aux,
+                aux_next,
+            },
+            challenges: draws.challenges(),
         };
         match k % 3 {
             1 => pair.make_small(),
@@ -90,30 +116,33 @@ impl Pair {
         pair
     }
 
-    // Small words, and more bits.
     fn make_small(&mut self) {
-        make_small(&mut self.upper);
-        make_small(&mut self.upper_aux);
-        make_small(&mut self.lower);
-        make_small(&mut self.lower_aux);
-        self.upper[1] = self.upper[1].wrapping_add(32);
-        self.lower[1] = self.lower[1].wrapping_add(32);
+        self.rows = RowPair {
+            upper: small_row(self.rows.upper),
+            lower: small_row(self.rows.lower),
+            aux: small_aux(self.rows.aux),
+            aux_next: small_aux(self.rows.aux_next),
+        };
     }
 
     // Small Results, and upper operands that halve to the lower ones.
     fn make_steps(&mut self) {
-        self.upper[8] %= 3;
-        self.lower[8] %= 3;
-        self.upper[4] = doubled(self.lower[4], self.upper[4]);
-        self.upper[6] = doubled(self.lower[6], self.upper[6]);
+        let upper = &mut self.rows.upper;
+        let lower = &mut self.rows.lower;
+        upper.result.0 %= 3;
+        lower.result.0 %= 3;
+        upper.lhs = doubled(lower.lhs, upper.lhs);
+        upper.rhs = doubled(lower.rhs, upper.rhs);
     }
 
     // The flags and opcodes of pair k.
     fn set_flags(&mut self, k: u64) {
-        self.upper[0] = flag(k % 4, self.upper[0]);
-        self.lower[0] = flag(k / 4 % 4, self.lower[0]);
-        self.upper[3] = opcode(k / 16 % 8, self.upper[3]);
-        self.lower[3] = opcode((k / 16 + k / 128) % 8, self.lower[3]);
+        let upper = &mut self.rows.upper;
+        let lower = &mut self.rows.lower;
+        upper.copy_flag.0 = flag(k % 4, upper.copy_flag.0);
+        lower.copy_flag.0 = flag(k / 4 % 4, lower.copy_flag.0);
+        upper.ci.0 = opcode(k / 16 % 8, upper.ci.0);
+        lower.ci.0 = opcode((k / 16 + k / 128) % 8, lower.ci.0);
     }
 }
 
@@ -172,27 +201,22 @@ impl<const N: usize> Digests<N> {
 // The four groups of constraints.
 #[derive(Clone, Copy)]
 struct Groups {
-    initial: Digests<1>,
-    consistency: Digests<15>,
-    transition: Digests<22>,
-    terminal: Digests<2>,
+    initial: Digests<INITIAL_COUNT>,
+    consistency: Digests<CONSISTENCY_COUNT>,
+    transition: Digests<TRANSITION_COUNT>,
+    terminal: Digests<TERMINAL_COUNT>,
 }
 
 impl Groups {
     fn note(&mut self, pair: &Pair) {
-        let challenges = Challenges::from_words(&pair.weights);
-        let upper = MainRow::at(&pair.upper, 0);
-        let lower = MainRow::at(&pair.lower, 0);
-        let aux = AuxRow::at(&pair.upper_aux, 0);
-        let aux_next = AuxRow::at(&pair.lower_aux, 0);
-        self.initial
-            .note(check_rows::initial_constraints(challenges, upper, aux));
+        let rows = pair.rows;
+        self.initial.note(check_rows::initial_constraints(pair.challenges, rows.upper, rows.aux));
         self.consistency
-            .note(check_rows::consistency_constraints(upper));
-        self.transition.note(check_pairs::transition_constraints(
-            challenges, upper, lower, aux, aux_next,
-        ));
-        self.terminal.note(check_rows::terminal_constraints(upper));
+            .note(check_rows::consistency_constraints(rows.upper));
+        self.transition
+            .note(check_pairs::transition_constraints(pair.challenges, rows));
+        self.terminal
+            .note(check_rows::terminal_constraints(rows.upper));
     }
 }
 

@@ -6,8 +6,8 @@ use field::BFieldElement;
 use vectors::{Counts, Numbers};
 use xfield::XFieldElement;
 
-// The calls of base elements, and those of extension elements, in the order of their wanted words in a line. A call is counted at its place here.
-static CALLS: [&str; 18] = [
+// The calls of base elements, in the order of their wanted words in a line. A call is counted at its place here.
+static BASE: [&str; 9] = [
     "new",
     "value",
     "add",
@@ -17,6 +17,10 @@ static CALLS: [&str; 18] = [
     "inverse_or_zero",
     "is_zero",
     "equals",
+];
+
+// The calls of extension elements, in the same order. They are counted after those of base elements.
+static EXTENSION: [&str; 9] = [
     "extension new",
     "extension from_base",
     "extension add",
@@ -27,14 +31,6 @@ static CALLS: [&str; 18] = [
     "extension is_zero",
     "extension equals",
 ];
-
-const EQUALS: usize = 8;
-
-const EXTENSION_NEW: usize = 9;
-
-const EXTENSION_IS_ZERO: usize = 16;
-
-const EXTENSION_EQUALS: usize = 17;
 
 // A line of base elements: a b, then new value add sub neg mul inverse is_zero equals.
 fn base(mut numbers: Numbers<'_>, counts: &mut Counts) {
@@ -78,12 +74,12 @@ fn extension(mut numbers: Numbers<'_>, counts: &mut Counts) {
         a.inverse_or_zero(),
     ];
     for (i, element) in got.iter().enumerate() {
-        counts.tally(EXTENSION_NEW + i, 0, numbers.words_are(&element.words()));
+        counts.tally(BASE.len() + i, 0, numbers.words_are(&element.words()));
     }
     let tests = [a.is_zero(), a == b];
     for (i, test) in tests.iter().enumerate() {
         let same = numbers.words_are(&[u64::from(*test)]);
-        counts.tally(EXTENSION_IS_ZERO + i, 0, same);
+        counts.tally(BASE.len() + got.len() + i, 0, same);
     }
 }
 
@@ -98,12 +94,14 @@ fn run_line(mut numbers: Numbers<'_>, counts: &mut Counts) {
 
 fn main(rt: HostRuntime) {
     let found = vectors::run_input(rt.stdin(), run_line);
-    for (call, name) in CALLS.iter().enumerate() {
+    for (call, name) in BASE.iter().chain(&EXTENSION).enumerate() {
         found.counts.print(&rt, name, call);
     }
-    for call in [EQUALS, EXTENSION_EQUALS] {
+    // The last word of a line is that of its last call.
+    for (calls, first) in [(&BASE, 0), (&EXTENSION, BASE.len())] {
+        let last = calls.len() - 1;
         let _ = print!(rt; "with the last word changed, ");
-        found.changed.print(&rt, CALLS[call], call);
+        found.changed.print(&rt, calls[last], first + last);
     }
     let x = XFieldElement::new(0, 1, 0);
     let [a, b, c] = (x * x * x).words();

@@ -76,7 +76,7 @@ fn run(mut numbers: Numbers<'_>, counts: &mut Counts) {
     counts.tally(Call::Run as usize, number, same);
 }
 
-// By number: a `TryFrom<u64>` for Call would have the same numbers, and here would be a match on what it answers besides.
+// By number: a `TryFrom<u64>` for `Call` would have four arms with these numbers, and here would be a match with four more.
 fn run_line(mut numbers: Numbers<'_>, counts: &mut Counts) {
     match numbers.number() {
         1 => fill(numbers, counts),

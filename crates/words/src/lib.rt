@@ -1,4 +1,4 @@
-// What every call shares: the reasons to decline, limits and little-endian numbers.
+// What every call shares: the reasons to decline, limits, little-endian numbers and records of words.
 #![tactic(auto)]
 
 ghost use Rattle.std.specs.Prelude.{◌≡◌, ◌+◌, ◌*◌, ◌≤◌, ◌<◌, length, take, drop};
@@ -59,7 +59,8 @@ impl From<Refusal> for u64 {
     }
 }
 
-// The byte at a place, as a word.
+// The byte at a place, as a word. Here and below a place is given: of a part, each caller would cut it and say the width once more, as in
+// `word_of(&bytes[8 * i..8 * i + 8])`.
 #[tactic(auto, using(crate::proofs::LittleEndian::le_at_one))]
 pub fn byte_at(bytes: &[u8], at: usize) -> u64
     requires { at < length bytes.now }

@@ -1,31 +1,23 @@
 -- `archive_text::put_rows` meets its contract: each pair that comes is the row at the number of those before it, and its sum.
-use Prim.Native.Nat.{ℕ, ◌+◌, ◌-◌}
-use mathlib.Core.Path.{◌≡◌, sym, ap, ◌∙◌}
-use mathlib.Core.List.{List}
-use native.Mathlib.Nat.{add-zero}
+use mathlib.Core.Path.{sym, ap, ◌∙◌}
 use native.Mathlib.Omega.{arith}
-use lib.ListN.{length, take, drop, length-append, length-drop}
-use lib.Seq.{take_all}
+use lib.ListN.{length, length-append}
 use Rattle.text.proofs.Adding.{reached}
 use Rattle.archive_text.proofs.Rows.{pair_lem, left_lem, rows_bound, line_bound, no_rows, one_row_more}
 use Rattle.archive_text.proofs.put_rows.Goals as goal
-
--- the words from place k on
-words_from : (xs : List ℕ) (k : ℕ) → take (length xs - k) (drop k xs) ≡ drop k xs
-words_from xs k = take_all (length xs - k) (drop k xs) (omega (arith, length-drop k xs))
 
 pub loop-row-init : goal.loop-row-init
 loop-row-init c =
     let words = c.chunks_exact-words.ensures in
     let sums = c.chunks_exact-sums.ensures in
-    rw (c.into_iter-row-iterator.ensures.into_iter_gives, c.take-row-items.ensures.source, c.zip.ensures.first, c.zip.ensures.second, add-zero c.args.from)
+    rw (c.into_iter-row-iterator.ensures.into_iter_gives, c.take-row-items.ensures.source, c.zip.ensures.first, c.zip.ensures.second)
     (record {
       count = omega (arith, c.take-row-items.ensures.count);
       row_size = words.size;
       sum_size = sums.size;
-      rows_left = words.rest ∙ words_from c.args.table.now _;
-      sums_left = sums.rest ∙ words_from c.args.aux.now _;
-      put = no_rows _ _ _ _ (omega (arith, c.new-text.ensures.empty));
+      rows_left = words.rest;
+      sums_left = sums.rest;
+      put = no_rows _ _ _ (omega (arith, c.new-text.ensures.empty));
     })
 
 pub put_row-requires-clause-room : goal.put_row-requires-clause-room
@@ -36,7 +28,7 @@ put_row-requires-clause-room c =
     let inv = c.loop-row.invariant in
     let steps = c.in-Some.ensures.steps in
     let r = reached inv.put in
-    let e = pair_lem t x (c.args.from + i) _ _ _ _ (sym inv.rows_left ∙ steps.0.0.1.0) (steps.0.0.1.1 ∙ inv.row_size)
+    let e = pair_lem t x i _ _ _ _ (sym inv.rows_left ∙ steps.0.0.1.0) (steps.0.0.1.1 ∙ inv.row_size)
     (sym inv.sums_left ∙ steps.0.1.1.0) (steps.0.1.1.1 ∙ inv.sum_size) in
     rw e
     (omega (
@@ -44,8 +36,8 @@ put_row-requires-clause-room c =
       c.requires.2,
       inv.count,
       steps.1,
-      rows_bound t x c.args.from i,
-      line_bound t x (c.args.from + i),
+      rows_bound t x 0 i,
+      line_bound t x i,
       r.len,
       r.size,
       c.new-text.ensures.empty,
@@ -63,7 +55,7 @@ loop-row-preserved c =
     let ten = steps.0.0.1.1 ∙ inv.row_size in
     let sum_comes = sym inv.sums_left ∙ steps.0.1.1.0 in
     let three = steps.0.1.1.1 ∙ inv.sum_size in
-    let e = pair_lem t x (c.args.from + i) _ _ _ _ comes ten sum_comes three in
+    let e = pair_lem t x i _ _ _ _ comes ten sum_comes three in
     rw length-append
     (record {
       count = omega (arith, inv.count, steps.1);
@@ -71,5 +63,5 @@ loop-row-preserved c =
       sum_size = steps.0.1.0 ∙ inv.sum_size;
       rows_left = left_lem _ _ t _ _ comes ten _ (omega arith);
       sums_left = left_lem _ _ x _ _ sum_comes three _ (omega arith);
-      put = one_row_more t x c.args.from i inv.put (rw e at c.put_row.ensures);
+      put = one_row_more t x i inv.put (rw e at c.put_row.ensures);
     })

@@ -16,7 +16,7 @@ invariant-loop-row l =
       count : l.row-iterator.n + i ≡ l.rows;
       row_size : words.size ≡ main_width;
       sum_size : sums.size ≡ aux_width;
-      rows_left : words.rest.now ≡ drop (main_width * (l.from + i)) l.table;
-      sums_left : sums.rest.now ≡ drop (aux_width * (l.from + i)) l.aux;
-      put : Adds l.initial.text (printed_rows l.table l.aux l.from i) l.text;
+      rows_left : words.rest.now ≡ drop (main_width * i) l.table;
+      sums_left : sums.rest.now ≡ drop (aux_width * i) l.aux;
+      put : Adds l.initial.text (printed_rows l.table l.aux 0 i) l.text;
     }

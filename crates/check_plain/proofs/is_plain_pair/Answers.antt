@@ -10,7 +10,7 @@ use Rattle.check_plain.proofs.is_plain_pair.Goals as goal
 pub returns-then-is_end : goal.returns-then-is_end
 unfolding row_of
 returns-then-is_end c =
-    let one = c.if-lower-eq1.true in
+    let one = c.if-pair-eq1.true in
     λ e. zero_transition _ _ _ _ _ (seam (c.is_end.ensures (search rules)) one) (sum_accumulates _ _ _ _ one (c.accumulates.ensures e))
 
 pub returns-then-is_step : goal.returns-then-is_step

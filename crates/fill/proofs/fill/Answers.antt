@@ -25,5 +25,5 @@ pub returns : goal.returns
 returns c =
     let j = held_height _ _ c.in_ok-height.ensures.height in
     let lent = c.lent.ensures ∙ c.in_ok-height.ensures.gathered in
-    fill_done _ _ (sym c.if-not-has_shape.ensures) j.0 (omega arith) (ap Ok (c.fill_sections.ensures.value ∙ ap list_height lent))
-    (c.fill_sections.ensures.table_after ∙ ap (λ (l : U32List). filled l c.args.table.now) lent)
+    fill_done _ _ (sym c.if-not-has_shape.ensures) j.0 (omega arith) (ap Ok j.1)
+    (c.fill_sections.ensures ∙ ap (λ (l : U32List). filled l c.args.table.now) lent)

@@ -9,7 +9,7 @@ use Rattle.isa.proofs.Entries.{height_bound}
 use Rattle.list.specs.Lists.{U32List, used, entry_at, multiplicity_at, judge_list}
 use Rattle.list.specs.Lent.{counts_in}
 use Rattle.list.specs.Heights.{list_height}
-use Rattle.list.proofs.JudgedLists.{entry_admissible, height_to, height_none, height_more, list_height_lem}
+use Rattle.list.proofs.JudgedLists.{entry_admissible, height_to, height_none, height_more}
 use Rattle.table.specs.Columns.{main_width}
 use Rattle.table.specs.RowWords.{table_words}
 use Rattle.fill_sections.specs.Sections.{section, section_words}
@@ -70,5 +70,4 @@ returns c =
     let l = counts_in c.args.places.now.list in
     let i = c.loop-place.invariant in
     let all : c.loop-place.place ≡ used l = omega arith in
-    let d = list_height_lem l in
-    record { value = cc; table_after = all_words l c.args.table.now _ _ all i.2 }
+    all_words l c.args.table.now _ _ all i.2

@@ -1,25 +1,35 @@
--- `list::do_eight_differ` meets its contract: `all` tells of each of the eight places that its word is another. Assumes nothing.
-use Rattle.std.proofs.Common.{◌≡◌, ◌≢◌, ℕ, ◌+◌, ◌*◌, Bool, true, false, List, length, get_or, MatchBool, refl, subst, arith, rules, tests}
-use Rattle.std.specs.List.{AllWithin, range_with_len}
+-- `list::do_eight_differ` meets its contract: `all` tells of each of the eight keys that its word is another. Assumes nothing.
+use Rattle.std.proofs.Common.{◌≡◌, ◌≢◌, ℕ, ◌+◌, ◌*◌, ◌≤◌, Bool, true, false, List, [], length, get_or, Option, Some, None, MatchBool, IsSomeAnd, IfSome, Bor, ap, ◌∙◌, subst, arith, rules, tests}
+use Rattle.std.specs.Iterator.Runs.{Run, AllItems, IsChunksExactRun}
+use Rattle.std.specs.List.{IsSubsliceAt}
 use Rattle.std.proofs.lemmas.Bool.{false≢true}
-use Rattle.std.proofs.lemmas.List.FromFn.{get_or-range_with_len, length-range_with_len}
-use Rattle.std.proofs.lemmas.Iterator.{cases_from_all, YieldsList-from_range}
 use Rattle.isa.specs.Entries.{entry_width}
 use Rattle.list.specs.Eights.{EightDiffer}
+use Rattle.list.proofs.Finding.{present}
 use Rattle.list.proofs.do_eight_differ.Goals as goal
 
-abbrev Differs : List ℕ → ℕ → ℕ → Type 0
-Differs keys lhs place = get_or keys (entry_width * place + 1) 0 ≢ lhs
+module _ {S : Type 0} {steps : S → Option (Bor (List ℕ)) → S → Type 0} (u : Run steps) (eight : List ℕ) (lhs : ℕ) (runs : IsChunksExactRun u entry_width eight)
+    (Keeps : Type 0) (Yes : Bor (List ℕ) → Type 0) (keeps : Keeps) (yes : (x : Bor (List ℕ)) → Yes x → get_or x.now 1 0 ≢ lhs) where
+  differs_at : (k : ℕ) (o : Option (Bor (List ℕ)))
+      → IfSome o (λ x. (length x.now ≡ entry_width) × (k * entry_width + entry_width ≤ length eight) × IsSubsliceAt entry_width eight (k * entry_width) x.now)
+      → IsSomeAnd o Yes → get_or eight (entry_width * (0 + k) + 1) 0 ≢ lhs
+  differs_at k None c m = absurd m
+  differs_at k (Some x) c m =
+      let place : k * entry_width + 1 ≡ entry_width * (0 + k) + 1 = omega arith in
+      subst (λ (w : ℕ). w ≢ lhs) (c.2.2 1 0 (omega arith) ∙ ap (λ (i : ℕ). get_or eight i 0) place) (yes x m)
 
-all_differ : (No : Type 0) (r : Bool) (keys : List ℕ) (i lhs : ℕ) → MatchBool r (AllWithin (Differs keys lhs) (range_with_len i 8) 0 (length (range_with_len i 8))) No
-    → r ≡ true → EightDiffer keys i lhs
-unfolding EightDiffer
-all_differ No true keys i lhs each e =
-    λ k b. subst (Differs keys lhs) (get_or-range_with_len i 8 k 0 b) (each k 0 (omega arith) (omega (arith, length-range_with_len i 8)))
-all_differ No false keys i lhs each e = absurd (false≢true e)
+  all_differ : (No : Type 0) (r : Bool) → length eight ≡ entry_width * 8 → MatchBool r ((u.whole ≡ true) × (Keeps → AllItems u Yes)) No → r ≡ true → EightDiffer eight 0 lhs
+  unfolding EightDiffer
+  all_differ No true long told e =
+      let all = runs.1 told.0 in
+      λ k b. differs_at k (u.at k) (runs.2 k) (present (u.at k) Yes (u.reads k (record { ref_ptr = (0, 0); now = [] }) (omega (arith, all, long))) (told.1 keeps k))
+  all_differ No false long told e = absurd (false≢true e)
 
 pub returns : goal.returns
 returns c =
-    let cases = cases_from_all _ _ _ (Differs c.args.keys.now c.args.left_operand) (λ place. get_or c.args.keys.now (entry_width * place + 1) 0 ≡ c.args.left_operand) c.all.ensures.ran
-    (YieldsList-from_range c.args.i (c.args.i + 8) 8 refl (omega arith)) (λ x q k. search (rules, tests)) (λ x q k. search (rules, tests)) in
-    all_differ _ _ _ _ _ cases
+    let eight = c.args.eight.now in
+    let chunks = c.chunks_exact.ensures in
+    let run = c.all.ensures.runs in
+    let u = run.0 in
+    let runs = rw (run.1, chunks.size, chunks.rest) at (chunks.runs u u.seen) in
+    all_differ u eight c.args.left_operand (runs (omega arith)) _ _ (λ x r q k. search rules) (λ x k. search (rules, tests)) _ c.all.result c.requires run.2

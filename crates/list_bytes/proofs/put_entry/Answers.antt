@@ -1,4 +1,4 @@
--- `list_bytes::put_entry` meets its contract: three runs of stores, one after the other. Assumes nothing.
+-- `list_bytes::put_entry` meets its contract: three runs of stores, one after the other, over all bytes. Assumes nothing.
 use Prim.Native.Nat.{◌+◌}
 use mathlib.Core.Path.{sym, ◌∙◌}
 use mathlib.Core.List.{◌++◌}
@@ -8,12 +8,12 @@ use Rattle.words.proofs.LittleEndian.{length_le}
 use Rattle.words.proofs.Sets.{sets_then}
 use Rattle.isa.specs.Entries.{lhs, rhs}
 use Rattle.list_bytes.specs.Packed.{opcode_width, operand_width, key_bytes}
+use Rattle.list_bytes.proofs.Format.{length_key, sets_whole}
 use Rattle.list_bytes.proofs.put_entry.Goals as goal
 
 pub returns : goal.returns
 unfolding key_bytes
 returns c =
-    let at = c.args.at in
     let e = c.args.e in
     let d = c.args.out.now in
     let l1 = length_le opcode_width e.opcode in
@@ -21,6 +21,7 @@ returns c =
     c.put_le-3.ensures
     ∙ sym
     (sets_then (le opcode_width e.opcode) (le operand_width (lhs e) ++ le operand_width (rhs e)) d c.put_le.new.bytes
-    at (at + opcode_width) c.put_le.ensures (omega arith)
+    0 opcode_width c.put_le.ensures (omega arith)
     ∙ sets_then (le operand_width (lhs e)) (le operand_width (rhs e)) c.put_le.new.bytes c.put_le-2.new.bytes
-    (at + opcode_width) (at + opcode_width + operand_width) c.put_le-2.ensures (omega arith))
+    opcode_width (opcode_width + operand_width) c.put_le-2.ensures (omega arith))
+    ∙ sets_whole (key_bytes e) d (omega (arith, length_key e, c.requires))

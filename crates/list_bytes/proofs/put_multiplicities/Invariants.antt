@@ -17,5 +17,5 @@ block l i = le multiplicity_width (multiplicity_at l i)
 abbrev pub invariant-loop-i : goal.invariant-loop-i
 invariant-loop-i l =
     let list = counts_in l.fn.used.list in
-    sets l.initial.out l.at (flat_map (block list) (places (used list)))
-    ≡ sets l.out (l.at + multiplicity_width * l.i) (flat_map (block list) (places_from l.i (used list - l.i)))
+    flat_map (block list) (places (used list))
+    ≡ sets l.out (0 + multiplicity_width * l.i) (flat_map (block list) (places_from l.i (used list - l.i)))

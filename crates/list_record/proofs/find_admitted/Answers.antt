@@ -44,7 +44,7 @@ list_of l = (held_in l).list
 pub returns-then-one_more_is_full : goal.returns-then-one_more_is_full
 unfolding multiplicity_at hold_at
 returns-then-one_more_is_full c =
-    let l = list_of c.args.list.now in
+    let l = list_of c.args.held.now in
     sym
     (place_full _ _ _ (first_key l c.requires.0 _ l.sizes l.multiplicities (c.in-Some.ensures.first _ _)) (few l c.requires.0 c.in-Some.ensures.within)
     (sym c.one_more_is_full.ensures ∙ c.if-one_more_is_full.true))
@@ -52,19 +52,19 @@ returns-then-one_more_is_full c =
 pub returns-else-one_more_is_full : goal.returns-else-one_more_is_full
 unfolding multiplicity_at hold_at
 returns-else-one_more_is_full c =
-    let l = list_of c.args.list.now in
+    let l = list_of c.args.held.now in
     sym
     (place_known _ _ _ (first_key l c.requires.0 _ l.sizes l.multiplicities (c.in-Some.ensures.first _ _)) (few l c.requires.0 c.in-Some.ensures.within)
     (sym c.one_more_is_full.ensures ∙ c.if-one_more_is_full.false))
 
 pub returns-then-list : goal.returns-then-list
 returns-then-list c =
-    let l = list_of c.args.list.now in
+    let l = list_of c.args.held.now in
     let all = many l c.requires.0 in
     sym (place_new _ _ _ (first_key l c.requires.0 _ l.sizes l.multiplicities (c.in-None.ensures.first _ _)) (omega arith) c.if-list.true)
 
 pub returns-else-list : goal.returns-else-list
 returns-else-list c =
-    let l = list_of c.args.list.now in
+    let l = list_of c.args.held.now in
     let all = many l c.requires.0 in
     sym (no_place _ _ _ (first_key l c.requires.0 _ l.sizes l.multiplicities (c.in-None.ensures.first _ _)) (omega arith) c.if-list.false)

@@ -4,8 +4,8 @@ use borrow.Author.Rules.{rules}
 use Rattle.list.proofs.HeldLists.{held_shaped}
 use Rattle.list_record.proofs.judge_drop.Goals as goal
 
-pub offset_bounds-list-position : goal.offset_bounds-list-position
-offset_bounds-list-position c = let fits = held_shaped _ (sym c.in_ok-held_shape.ensures) in search rules
+pub offset_bounds-held-position : goal.offset_bounds-held-position
+offset_bounds-held-position c = let fits = held_shaped _ (sym c.in_ok-held_shape.ensures) in search rules
 
-pub bounds-list-position : goal.bounds-list-position
-bounds-list-position c = let fits = held_shaped _ (sym c.in_ok-held_shape.ensures) in search rules
+pub bounds-held-position : goal.bounds-held-position
+bounds-held-position c = let fits = held_shaped _ (sym c.in_ok-held_shape.ensures) in search rules

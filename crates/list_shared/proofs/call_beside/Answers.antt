@@ -1,19 +1,18 @@
--- `list_shared::call_beside` meets its contract: the other's arrays are of the wrong shape (beside_wrong), or the call is made and the other's places that
--- came into use are cleared (beside_done). Assumes nothing.
-use Rattle.std.proofs.Common.{ap, not, refl}
-use Rattle.std.specs.Fn.{FnOnceReturnsAtMut}
-use Rattle.list_shared.proofs.Beside.{beside_wrong, beside_done}
+-- `list_shared::call_beside` meets its contract: where the other's arrays are of the wrong shape nothing is changed; else the call has returned, and what came into
+-- use is cleared. Assumes nothing.
+use Rattle.std.proofs.Common.{refl, sym}
 use Rattle.list_shared.proofs.call_beside.Goals as goal
 
-pub returns-then-not-fits-clause-outcome : goal.returns-then-not-fits-clause-outcome
-returns-then-not-fits-clause-outcome g c = beside_wrong _ _ _ _ c.fits.ensures (ap not c.if-not-fits.true)
+pub returns-in_err-other_shape-clause-refused : goal.returns-in_err-other_shape-clause-refused
+returns-in_err-other_shape-clause-refused g c = rw (sym c.in_err-other_shape.ensures) (c.from_residual.ensures.1, refl, refl)
 
-pub returns-clause-outcome : goal.returns-clause-outcome
-returns-clause-outcome g c =
-    let gave : FnOnceReturnsAtMut g.F.FnOnce c.args.call c.args.list.now c.call-answer.result c.call-answer.new.arg2 =
-    record { shown = _; shows = refl; left = _; met = c.call-answer.ensures; leaves = refl } in
-    beside_done _ _ _ _ c.fits.ensures (ap not c.if-not-fits.false) (c.requires.1.1.1 _ _ gave).0 c.clear.ensures.counts
+pub returns-in_err-other_shape-clause-called : goal.returns-in_err-other_shape-clause-called
+returns-in_err-other_shape-clause-called g c = rw (sym c.in_err-other_shape.ensures) tt
 
-pub returns-clause-same_arrays : goal.returns-clause-same_arrays
-returns-clause-same_arrays g c =
-    (c.requires.1.1.1 _ _ (record { shown = _; shows = refl; left = _; met = c.call-answer.ensures; leaves = refl })).1
+pub returns-clause-refused : goal.returns-clause-refused
+returns-clause-refused g c = rw (sym c.in_ok-other_shape.ensures) tt
+
+pub returns-clause-called : goal.returns-clause-called
+returns-clause-called g c =
+    rw (sym c.in_ok-other_shape.ensures)
+    (record { shown = _; shows = refl; left = _; met = c.call-answer.ensures; leaves = refl }, c.clear.ensures.counts)

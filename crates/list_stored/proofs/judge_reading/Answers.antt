@@ -13,14 +13,14 @@ pub returns-in_err-stored : goal.returns-in_err-stored
 returns-in_err-stored c =
     taken_refused _ _ (handed_on _ c.from_residual-in_err-stored.ensures.1) (read_torn _ _ (sym c.in_ok-held_shape.ensures) c.in_err-stored.ensures)
 
-pub returns-then-list-stored : goal.returns-then-list-stored
-returns-then-list-stored c =
+pub returns-then-held-stored : goal.returns-then-held-stored
+returns-then-held-stored c =
     let stored = c.in_ok-stored.ensures in
     let n = c.in_ok-stored.stored.whole.0 ∙ ap stored_n stored.0 in
-    read_full _ _ (sym c.in_ok-held_shape.ensures) stored.1 (let h = c.if-list-stored.true in omega arith)
+    read_full _ _ (sym c.in_ok-held_shape.ensures) stored.1 (let h = c.if-held-stored.true in omega arith)
 
-pub returns-then-list-gt0 : goal.returns-then-list-gt0
-returns-then-list-gt0 c = read_used _ _ (sym c.in_ok-held_shape.ensures) c.in_ok-stored.ensures.1 c.if-list-gt0.true
+pub returns-then-held-gt0 : goal.returns-then-held-gt0
+returns-then-held-gt0 c = read_used _ _ (sym c.in_ok-held_shape.ensures) c.in_ok-stored.ensures.1 c.if-held-gt0.true
 
 pub returns-in_err-judge_content : goal.returns-in_err-judge_content
 returns-in_err-judge_content c =
@@ -28,7 +28,7 @@ returns-in_err-judge_content c =
     let n = c.in_ok-stored.stored.whole.0 ∙ ap stored_n stored.0 in
     taken_refused _ _ (handed_on _ c.from_residual-in_err-judge_content.ensures.1)
     (read_content _ _ (sym c.in_ok-held_shape.ensures) stored.1
-    (let h = c.if-list-stored.false in omega arith) (let u = c.if-list-gt0.false in omega arith)
+    (let h = c.if-held-stored.false in omega arith) (let u = c.if-held-gt0.false in omega arith)
     ∙ ap content_reason (sym stored.0) ∙ sym c.in_err-judge_content.ensures)
 
 pub returns : goal.returns
@@ -37,6 +37,6 @@ returns c =
     let n = c.in_ok-stored.stored.whole.0 ∙ ap stored_n stored.0 in (
       stored.0,
       read_content _ _ (sym c.in_ok-held_shape.ensures) stored.1
-          (let h = c.if-list-stored.false in omega arith) (let u = c.if-list-gt0.false in omega arith)
+          (let h = c.if-held-stored.false in omega arith) (let u = c.if-held-gt0.false in omega arith)
           ∙ ap content_reason (sym stored.0) ∙ sym c.in_ok-judge_content.ensures,
     )

@@ -1,4 +1,4 @@
--- `list_stored::write_list` meets its contract: where `judge_counted` gives a reason it is the answer; else its copy is the list that is stored, so `store`
+-- `list_stored::write_list` meets its contract: where `judge_and_gather` gives a reason it is the answer; else its copy is the list that is stored, so `store`
 -- does what is due for it. Assumes nothing.
 use mathlib.Core.Path.{sym, ap, ◌∙◌}
 use Rattle.list.specs.Heights.{list_height}

@@ -8,5 +8,5 @@ use Rattle.probes.proofs.probe_constraints.Goals as goal
 pub returns-clause-constraints : goal.returns-clause-constraints
 unfolding written constraints_fit
 returns-clause-constraints c =
-    let e = words_held _ _ _ _ c.from_words.ensures c.at.ensures c.at-2.ensures c.at-3.ensures c.at-4.ensures c.put_all.ensures in
+    let e = words_held _ _ _ _ c.from_words.ensures c.at-pair.ensures.upper c.at-pair.ensures.lower c.at-pair.ensures.sum c.at-pair.ensures.sum_next c.put_all.ensures in
     search rules

@@ -8,10 +8,10 @@ use Rattle.archive.specs.Archives.{archived_word}
 use Rattle.archive.proofs.StoredColumns.put_row.Given as goal
 
 -- the word of column c
-abbrev pub cell : List ℕ → (from rows i c : ℕ) → ℕ
-cell bytes from rows i c = archived_word bytes (from + (rows * c + i))
+abbrev pub cell : List ℕ → (rows i c : ℕ) → ℕ
+cell bytes rows i c = archived_word bytes (rows * c + i)
 
 abbrev pub invariant-loop-c : goal.invariant-loop-c
 invariant-loop-c l =
-    sets l.initial.to (l.self.width * l.i) (map (cell l.self.bytes.now l.self.from l.self.rows l.i) (places l.self.width))
-    ≡ sets l.to (l.self.width * l.i + l.c) (map (cell l.self.bytes.now l.self.from l.self.rows l.i) (places_from l.c (l.self.width - l.c)))
+    sets l.initial.to 0 (map (cell l.self.bytes.now l.self.rows l.i) (places l.self.width))
+    ≡ sets l.to l.c (map (cell l.self.bytes.now l.self.rows l.i) (places_from l.c (l.self.width - l.c)))

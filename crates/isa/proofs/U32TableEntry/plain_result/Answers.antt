@@ -1,11 +1,9 @@
 -- `isa::U32TableEntry::plain_result` meets its contract. In an arm the opcode is known, so the definition computes to that opcode's plain function.
-use Rattle.std.proofs.Common.{ℕ, ◌≡◌, ◌≢◌, refl, sym, ◌∙◌, inl, inr, Bool, true, false, cond, ltb, bit_and}
+use Rattle.std.proofs.Common.{ℕ, ◌≡◌, refl, sym, ◌∙◌, Bool, true, false, cond, ltb, bit_and}
 use Rattle.std.specs.Int.{from_bool}
 use Rattle.std.specs.Int.Count.{ones}
-use Rattle.std.proofs.lemmas.Bool.{ne_eqb}
 use Rattle.isa.specs.PlainFunctions.{plain_lt, plain_and, plain_pow, plain_result, floor_log2}
 use Rattle.field.specs.Elements.{pow_f}
-use Rattle.isa.proofs.Entries.{not_one_of_six}
 use Rattle.isa.proofs.PlainLaws.{one_bits_ones, result_lt, result_and, result_log, result_pow, result_pop_count}
 use Rattle.isa.proofs.Opcodes.{opcode_at}
 use Rattle.isa.proofs.U32TableEntry.plain_result.Goals as goal
@@ -34,15 +32,6 @@ module _ {o : ℕ} (l r : ℕ) where
   counted : o ≡ 28 → plain_result o l r ≡ ones l
   counted k = rw k (result_pop_count l r ∙ one_bits_ones l)
 
-  split_none : o ≡ 4 → plain_result o l r ≡ 0
-  unfolding plain_result
-  split_none k = rw k refl
-
-  -- "0 for split"
-  none : o ≢ 6 → o ≢ 14 → o ≢ 12 → o ≢ 30 → o ≢ 28 → plain_result o l r ≡ 0
-  unfolding plain_result
-  none a b d f g = simp (ne_eqb o 6 a, ne_eqb o 14 b, ne_eqb o 12 d, ne_eqb o 30 f, ne_eqb o 28 g)
-
 pub returns-in-Ok-Lt : goal.returns-in-Ok-Lt
 returns-in-Ok-Lt c = c.from.ensures ∙ sym (less_bit _ _ (opcode_at c.in-Ok-Lt.ensures c.in-Ok-Lt.field-0-is))
 
@@ -59,11 +48,3 @@ returns-in-Ok-Pow c = c.pow.ensures ∙ sym (power _ _ (opcode_at c.in-Ok-Pow.en
 pub returns-in-Ok-PopCount : goal.returns-in-Ok-PopCount
 returns-in-Ok-PopCount c =
     c.from-in-Ok-PopCount.ensures ∙ sym (counted _ _ (opcode_at c.in-Ok-PopCount.ensures c.in-Ok-PopCount.field-0-is))
-
-pub returns-in-Ok-Split : goal.returns-in-Ok-Split
-returns-in-Ok-Split c = sym (split_none _ _ (opcode_at c.in-Ok-Split.ensures c.in-Ok-Split.field-0-is))
-
-pub returns-in-Err : goal.returns-in-Err
-returns-in-Err c =
-    let other = not_one_of_six _ c.in-Err.ensures.0 in
-    sym (none _ _ (λ e. other (inr (inl e))) (λ e. other (inr (inr (inr (inl e))))) (λ e. other (inr (inr (inl e)))) (λ e. other (inr (inr (inr (inr (inr e)))))) (λ e. other (inr (inr (inr (inr (inl e)))))))

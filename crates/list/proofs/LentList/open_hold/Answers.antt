@@ -39,11 +39,11 @@ module _ (h : HeldList) where
 pub returns-then-all : goal.returns-then-all
 returns-then-all c =
     let cases = cases_from_all _ _ _ (λ x. x ≡ 0) (λ x. x ≢ 0) c.all.ensures.ran
-    (YieldsList-from_take c.args.self.now.sizes.used (YieldsList-from_slice c.args.self.now.holds.now cc) cc) (λ x q k. search (rules, tests)) (λ x q k. search (rules, tests)) in
+    (YieldsList-from_take c.args.self.now.list.sizes.used (YieldsList-from_slice c.args.self.now.holds.now cc) cc) (λ x q k. search (rules, tests)) (λ x q k. search (rules, tests)) in
     ap (λ (r : Bool). decline_if (not r) OpenHold) (sym c.if-all.true) ∙ told _ _ cases
 
 pub returns-else-all : goal.returns-else-all
 returns-else-all c =
     let cases = cases_from_all _ _ _ (λ x. x ≡ 0) (λ x. x ≢ 0) c.all.ensures.ran
-    (YieldsList-from_take c.args.self.now.sizes.used (YieldsList-from_slice c.args.self.now.holds.now cc) cc) (λ x q k. search (rules, tests)) (λ x q k. search (rules, tests)) in
+    (YieldsList-from_take c.args.self.now.list.sizes.used (YieldsList-from_slice c.args.self.now.holds.now cc) cc) (λ x q k. search (rules, tests)) (λ x q k. search (rules, tests)) in
     ap (λ (r : Bool). decline_if (not r) OpenHold) (sym c.if-all.false) ∙ told _ _ cases
