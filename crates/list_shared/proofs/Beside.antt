@@ -1,6 +1,6 @@
 -- What each way out of a call of one of the two recorders leaves, said of the definition `beside` (beside_wrong, beside_done), and so what a call leaves that
 -- `call_beside` made or refused (called_beside, same_beside). Assumes nothing.
-use mathlib.Core.Path.{◌≡◌, refl, ap, ◌∙◌}
+use mathlib.Core.Path.{◌≡◌, refl, sym, ap, ◌∙◌}
 use mathlib.Core.Bool.{Bool, true, false, not, ◌&&◌}
 use lib.Dec.{eqb}
 use lib.ListN.{length}
@@ -13,11 +13,20 @@ use Rattle.words.specs.declared.Refusal.{Refusal}
 use Rattle.words.specs.declared.Refusal.TheVariants.{Shape}
 use Rattle.words.proofs.Judgements.{decline_true, decline_false}
 use Rattle.list.specs.declared.LentListMut.{LentListMut}
-use Rattle.list.specs.Lists.{used}
+use Rattle.list.specs.Lists.{capacity, used}
 use Rattle.list.specs.Holds.{HeldList}
 use Rattle.list.specs.Lent.{held_in_mut, SameArrays}
 use Rattle.list_shared.specs.Shared.{Counts, other_shape, cleared, beside}
 use Rattle.list_shared.specs.Lent.{shared}
+
+-- the other's shape is wrong where a test of it says so
+module _ (h : HeldList) (other : Counts) where
+  abbrev fits : Bool
+  fits = eqb (length other.multiplicities) (capacity h.list) && eqb (length other.holds) (capacity h.list)
+
+  pub shape_wrong : {test : Bool} → test ≡ fits → not test ≡ true → other_shape h other ≡ Declined Shape
+  unfolding other_shape
+  shape_wrong e taken = decline_true Shape (ap not (sym e) ∙ taken)
 
 same : {own own' : HeldList} {other other' : Counts} → own ≡ own' → other ≡ other' → shared own other ≡ shared own' other'
 same p q = rw (p, q) refl

@@ -1,18 +1,15 @@
--- Extension elements one after the other, three words each: runs that follow one another are one run (`then`), so a loop that stores one after
--- another leaves all of them (`elements_turn`), and the forty values fill their array (`all_stored`); and the tests of lengths. Assumes nothing.
+-- Extension elements one after the other, three words each: a loop that stores one after another leaves all of them (`elements_turn`), runs
+-- that follow one another are one run (`then`), and the forty values fill their array (`all_stored`); and the tests of lengths. Assumes nothing.
 use Prim.Native.Nat.{ℕ, ◌+◌, ◌*◌, ◌%◌, ◌≤◌, ◌<◌}
 use mathlib.Core.Path.{◌≡◌, refl, sym, ap, ◌∙◌}
 use mathlib.Core.Bool.{true, false}
 use mathlib.Core.List.{List, [], ◌∷◌, ◌++◌, map, append_assoc, append-nil}
 use native.Mathlib.Omega.{arith}
-use lib.ListN.{length, get_or, length-map, drop_of_length-le}
-use lib.Seq.{sets}
+use native.Mathlib.Numerals.{add-one}
+use lib.ListN.{length, get_or, take, length-map, length-append, drop_of_length-le, get_or-map}
+use lib.Seq.{sets, take-suc, length-take-le}
 use borrow.Author.Count.{below_more}
 use borrow.Author.Tests.{eq-eqb, ne_eqb}
-use denote.Ref.{Bor}
-use Rattle.std.specs.List.{enumerate_from}
-use Rattle.std.proofs.lemmas.List.{map-append}
-use Rattle.std.proofs.lemmas.List.FromFn.{length-enumerate_from, get_or-enumerate_from}
 use Rattle.words.proofs.Sets.{sets_then, sets_front, get_d_sets_below, get_d_sets_in}
 use Rattle.xfield.specs.Extension.{Ext, words_x, InverseOrZeroX}
 use Rattle.xfield.specs.XFieldElements.{ext_of}
@@ -20,6 +17,7 @@ use Rattle.xfield.specs.declared.XFieldElement.{XFieldElement}
 use Rattle.table.specs.Columns.{Row, row_at, element_at, aux_at}
 use Rattle.table.specs.Challenges.{Challenges, challenges_of}
 use Rattle.air.specs.Constraints.{initial_constraints, consistency_constraints, transition_constraints, terminal_constraints}
+use Rattle.air.proofs.Lists.{initial_length, consistency_length, transition_length}
 use Rattle.probes.specs.Probes.{words_of, constraints_of, constraint_words, ext_inverses_fit}
 
 -- ---- words of elements
@@ -39,29 +37,17 @@ pub then : (before between after : List ℕ) (xs ys : List Ext) (j k : ℕ) → 
 then before between after xs ys j k e f at =
     f ∙ sym (rw (words_append xs ys) (sets_then (words_of xs) (words_of ys) before between j k e (omega (arith, words_length xs, at))))
 
--- ---- a loop over numbered elements, of which ys have been passed
--- the number of the next
-pub number_of : {X : Type 0} (all : List X) (k i : ℕ) (x : X) → (k < length (enumerate_from 0 all)) × ((i, x) ≡ get_or (enumerate_from 0 all) k (i, x)) → i ≡ k
-number_of {X} all k i x t =
-    ap (λ (p : ℕ × X). p.0) (t.1 ∙ get_or-enumerate_from 0 all k (i, x) (omega (arith, t.0, length-enumerate_from 0 all))) ∙ omega arith
-
--- it is stored
-pub elements_turn : (before values after : List ℕ) (ys : List (ℕ × Bor XFieldElement)) (i : ℕ) (x : Bor XFieldElement) → i ≡ length ys
-    → values ≡ sets before 0 (words_of (map (λ y. ext_of y.1.now) ys)) → after ≡ sets values (3 * i) (words_x (ext_of x.now))
-    → after ≡ sets before 0 (words_of (map (λ y. ext_of y.1.now) (ys ++ (i, x) ∷ [])))
+-- ---- a loop over elements
+pub elements_turn : (before values after : List ℕ) (xs : List XFieldElement) (from i : ℕ) (d : XFieldElement) → i < length xs
+    → values ≡ sets before (3 * from) (words_of (take i (map ext_of xs)))
+    → after ≡ sets values (3 * (from + i)) (words_x (ext_of (get_or xs i d))) → after ≡ sets before (3 * from) (words_of (take (i + 1) (map ext_of xs)))
 unfolding words_of
-elements_turn before values after ys i x n e f =
-    rw (map-append (λ (y : ℕ × Bor XFieldElement). ext_of y.1.now) ys ((i, x) ∷ []))
-    (then before values after (map (λ y. ext_of y.1.now) ys) (ext_of x.now ∷ []) 0 (3 * i) e f (omega (arith, n, length-map ys (λ y. ext_of y.1.now))))
-
--- all have been passed
-numbered : (n : ℕ) (all : List XFieldElement) → map (λ (q : ℕ × XFieldElement). ext_of q.1) (enumerate_from n all) ≡ map ext_of all
-numbered n [] = refl
-numbered n (x ∷ all) = ap (λ (es : List Ext). ext_of x ∷ es) (numbered (n + 1) all)
-
-elements_of : (ys : List (ℕ × Bor XFieldElement)) → map (λ y. ext_of y.1.now) ys ≡ map (λ (q : ℕ × XFieldElement). ext_of q.1) (map (λ y. (y.0, y.1.now)) ys)
-elements_of [] = refl
-elements_of (y ∷ ys) = ap (λ (es : List Ext). ext_of y.1.now ∷ es) (elements_of ys)
+elements_turn before values after xs from i d h e f =
+    let vs = map ext_of xs in
+    let inside : i < length vs = omega (arith, length-map xs ext_of) in
+    rw (add-one, take-suc vs i (ext_of d) inside, get_or-map ext_of xs i d)
+    (then before values after (take i vs) (ext_of (get_or xs i d) ∷ []) (3 * from) (3 * (from + i)) e f
+    (omega (arith, length-take-le i vs (omega (arith, inside)))))
 
 -- ---- the forty
 -- a run as long as the array is the array
@@ -74,20 +60,22 @@ module _ (c : Challenges) (upper lower : Row) (sum next : Ext) where
   unfolding constraints_of initial_constraints consistency_constraints transition_constraints terminal_constraints
   forty = refl
 
-  pub all_stored : (before after : List ℕ) (ys : List (ℕ × Bor XFieldElement)) (is cs ts es : List XFieldElement) → length before ≡ 120
-      → map ext_of is ≡ initial_constraints c upper sum → map ext_of cs ≡ consistency_constraints upper
-      → map ext_of ts ≡ transition_constraints c upper lower sum next → map ext_of es ≡ terminal_constraints upper
-      → map (λ y. (y.0, y.1.now)) ys ≡ enumerate_from 0 (is ++ cs ++ ts ++ es) → after ≡ sets before 0 (words_of (map (λ y. ext_of y.1.now) ys))
-      → after ≡ words_of (constraints_of c upper lower sum next)
+  pub all_stored : (v₀ v₁ v₂ v₃ v₄ : List ℕ) (is cs ts es : List Ext) → length v₀ ≡ 120
+      → is ≡ initial_constraints c upper sum → cs ≡ consistency_constraints upper
+      → ts ≡ transition_constraints c upper lower sum next → es ≡ terminal_constraints upper
+      → v₁ ≡ sets v₀ 0 (words_of is) → v₂ ≡ sets v₁ 3 (words_of cs) → v₃ ≡ sets v₂ 48 (words_of ts) → v₄ ≡ sets v₃ 114 (words_of es)
+      → v₄ ≡ words_of (constraints_of c upper lower sum next)
   unfolding constraints_of
-  all_stored before after ys is cs ts es n a b d e passed f =
-      let vs = map ext_of is ++ (map ext_of cs ++ (map ext_of ts ++ map ext_of es)) in
-      let joined : map ext_of (is ++ cs ++ ts ++ es) ≡ vs = simp (map-append, append_assoc) in
-      let all : map (λ y. ext_of y.1.now) ys ≡ constraints_of c upper lower sum next =
-      elements_of ys ∙ ap (map (λ (q : ℕ × XFieldElement). ext_of q.1)) passed ∙ numbered 0 (is ++ cs ++ ts ++ es) ∙ joined ∙ rw (a, b, d, e) refl in
-      f
-      ∙ ap (λ (xs : List Ext). sets before 0 (words_of xs)) all
-      ∙ whole _ before (words_length (constraints_of c upper lower sum next) ∙ omega (arith, forty, n))
+  all_stored v₀ v₁ v₂ v₃ v₄ is cs ts es n a b d e e₁ e₂ e₃ e₄ =
+      let i₁ : length is ≡ 1 = ap length a ∙ initial_length c upper sum in
+      let c₁₅ : length cs ≡ 15 = ap length b ∙ consistency_length upper in
+      let t₂₂ : length ts ≡ 22 = ap length d ∙ transition_length c upper lower sum next in
+      let r₃ = then v₁ v₂ v₃ cs ts 3 48 e₂ e₃ (omega arith) in
+      let r₄ = then v₁ v₃ v₄ (cs ++ ts) es 3 114 r₃ e₄ (omega (arith, length-append cs ts)) in
+      let all = then v₀ v₁ v₄ is ((cs ++ ts) ++ es) 0 3 e₁ r₄ (omega arith) in
+      all
+      ∙ ap (λ (vs : List Ext). sets v₀ 0 (words_of vs)) (rw (append_assoc cs ts es, a, b, d, e) refl)
+      ∙ whole _ v₀ (words_length (constraints_of c upper lower sum next) ∙ omega (arith, forty, n))
 
 -- of the rows, sums and challenges that the words hold
 pub words_held : (rows aux challenges after : List ℕ) {c : Challenges} {upper lower : Row} {sum next : Ext} → c ≡ challenges_of challenges

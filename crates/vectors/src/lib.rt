@@ -4,10 +4,10 @@
 
 ghost use Rattle.std.specs.Prelude.{◌≡◌, ◌-◌, ◌<◌, ◌≤◌, length, min, take, drop, replicate, MatchOption, MatchResult, List, ℕ, nat_eq};
 ghost use Rattle.arrayvec.specs.ArrayVec.{array_vec_len};
-ghost use Rattle.std.specs.Cmp.Lexicographic.{pointwise};
 ghost use Rattle.std.specs.Iterator.{at_most};
 ghost use Rattle.io.specs.Counts.{IsPrefixLen};
 ghost use Rattle.words.specs.Refusals.{refusal_number};
+ghost use Rattle.vectors.specs.Same.{same_first as same_first_of};
 ghost use Rattle.vectors.specs.Counts.{row, counted, answered, tallied};
 
 mod lists;
@@ -111,10 +111,10 @@ impl Numbers<'_> {
 
     // Whether words are those that come next. A line has no more than 1,024 in a row, and more than that differ.
     pub fn words_are(&mut self, words: &[u64]) -> bool
-        ensures { (wanted : List ℕ) × (length wanted ≡ min (length words.now) 1024) × (result ≡ pointwise nat_eq words.now wanted) }
+        ensures { (wanted : List ℕ) × (length wanted ≡ min (length words.now) 1024) × (result ≡ same_first_of nat_eq (length words.now) words.now wanted) }
     {
         let wanted = self.array::<u64, 1024>(words.len() as u64);
-        words == wanted.as_slice()
+        same_first(words, wanted.as_slice(), words.len())
     }
 
     // Whether an answer is the one that comes next: document 01's number, and the N words of its value, zeros where there is none.
@@ -137,6 +137,15 @@ fn with_digit(n: u64, digit: u8) -> u64 {
     n.checked_mul(10)
         .and_then(|n| n.checked_add(u64::from(digit.saturating_sub(b'0'))))
         .unwrap_or(n)
+}
+
+// Whether the first `count` items of both are the same; an item past an end differs.
+// No bare `==` where runs are compared: that a comparator tells a wrong vector has to be proved, and this contract does.
+#[tactic(auto, using(crate::proofs::SameLaws::alike, crate::proofs::SameLaws::first_short, crate::proofs::SameLaws::second_short))]
+pub fn same_first<T: PartialEq>(left: &[T], right: &[T], count: usize) -> bool
+    ensures { result ≡ same_first_of T.eq count left.now right.now }
+{
+    count <= left.len() && count <= right.len() && left[..count] == right[..count]
 }
 
 // ---- reading standard input in parts

@@ -1,11 +1,11 @@
 // The lists of vectors: their arrays stand here, and are lent to the calls.
-ghost use Rattle.std.specs.Prelude.{◌≡◌, true, min, replicate};
-ghost use Rattle.std.specs.List.{AllWithin};
+ghost use Rattle.std.specs.Prelude.{◌≡◌, true, nat_eq, min, replicate};
 ghost use Rattle.arrayvec.specs.ArrayVec.{array_vec_len};
 ghost use Rattle.list.specs.Holds.{held_list};
 ghost use Rattle.list.specs.Lent.{held_in, held_in_mut};
+ghost use Rattle.vectors.specs.Same.{same_first};
 
-use crate::Numbers;
+use crate::{Numbers, same_first};
 use arrayvec::ArrayVec;
 use list::{LentCounts, LentListMut, Sizes};
 
@@ -75,12 +75,14 @@ impl<const K: usize, const M: usize> LentList<K, M> {
 
     // Whether the sizes and the two arrays are those that come next, and nothing is held.
     pub fn is_next(&self, numbers: &mut Numbers<'_>) -> bool
-        ensures { result ≡ true → AllWithin (λ hold. hold ≡ 0) self.now.holds.items 0 (array_vec_len self.now.holds) }
+        ensures { result ≡ true → same_first nat_eq (array_vec_len self.now.holds) self.now.holds.items (replicate (min (array_vec_len self.now.holds) M) 0) ≡ true }
     {
-        take_sizes(numbers) == self.sizes
+        let sizes = take_sizes(numbers);
+        let unheld = zeros::<M>(self.holds.len());
+        sizes == self.sizes
             && numbers.words_are(&self.keys)
             && numbers.words_are(&self.multiplicities)
-            && self.holds.iter().all(|hold| *hold == 0)
+            && same_first(&self.holds, &unheld, self.holds.len())
     }
 
     // The list as it is lent, to be looked at.

@@ -7,7 +7,7 @@ use c_answers::order_number;
 use isa::{Opcode, U32TableEntry};
 use list_record::Heights;
 use std::fmt;
-use vectors::{Counts, LentList, LineList, Numbers, number_of};
+use vectors::{Counts, LentList, LineList, Numbers, number_of, same_first};
 use words::Refusal;
 
 // The calls; a line begins with the number of its call. The last has no lines.
@@ -93,7 +93,8 @@ fn write(mut numbers: Numbers<'_>, counts: &mut Counts) {
     let mut bytes = numbers.counted_array::<u8, 512>();
     let answer = list_stored::write_list(&list.lend(), &mut bytes).map(word_of);
     let is_wanted = numbers.answer_is(answer);
-    let same = is_wanted && bytes == numbers.array(bytes.len() as u64);
+    let wanted = numbers.array::<u8, 512>(bytes.len() as u64);
+    let same = is_wanted && same_first(&bytes, &wanted, bytes.len());
     counts.tally(Call::Write as usize, number_of(&answer), same);
 }
 

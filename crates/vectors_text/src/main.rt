@@ -6,7 +6,7 @@
 
 use std::fmt;
 use transcript::MAX_TEXT;
-use vectors::{Counts, Input, Numbers, number_of, part, part_mut};
+use vectors::{Counts, Input, Numbers, number_of, part, part_mut, same_first};
 use words::Refusal;
 
 // What is counted of each case.
@@ -81,9 +81,11 @@ impl<'a> Case<'a> {
             Ok(n) => {
                 let put = part(out, n);
                 let number = answered(put);
-                let later = self.later.starts_with(put);
+                let later = same_first(put, self.later, n);
                 counts.tally(Kind::TextLater as usize, number, later);
-                let same = put == self.text && untouched(&out[put.len()..]);
+                let same = n == self.text.len()
+                    && same_first(put, self.text, n)
+                    && untouched(&out[put.len()..]);
                 counts.tally(Kind::Text as usize, number, same);
             }
             Err(reason) => counts.tally(Kind::Text as usize, u64::from(reason), false),
