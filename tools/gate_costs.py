@@ -15,14 +15,10 @@ import subprocess
 import sys
 import time
 
+import crates
+
 ROOT = pathlib.Path(__file__).resolve().parent.parent
 TICKS = os.sysconf("SC_CLK_TCK")
-
-
-def crates():
-    for line in (ROOT / "crates.txt").read_text().splitlines():
-        if ":" in line and not line.startswith("#"):
-            yield line.split(":")[0].split()[0]
 
 
 def of_here(folder):
@@ -68,7 +64,7 @@ def main(command):
         spent[crate, kind] += value
     print("| crate | seconds | MB | edits | their seconds | tests |\n|---|---|---|---|---|---|")
     sums = collections.Counter()
-    for name in crates():
+    for name in crates.uses():
         edits = len(list((ROOT / "crates" / name / "must-fail").glob("*.edit")))
         for kind in ("proof", "edits", "tests"):
             sums[kind] += spent[name, kind]

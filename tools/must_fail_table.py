@@ -16,6 +16,8 @@ import pathlib
 import re
 import sys
 
+import crates
+
 ROOT = pathlib.Path(__file__).resolve().parent.parent
 PAGE = ROOT / "docs" / "MUST-FAIL.md"
 # first errors that show nothing
@@ -129,8 +131,7 @@ def page(before, tries):
     bad = []
     out = [HEAD]
     count = older = 0
-    order = [l.split(":")[0].split()[0] for l in (ROOT / "crates.txt").read_text().splitlines() if ":" in l and not l.startswith("#")]
-    for crate in order:
+    for crate in crates.uses():
         edits = sorted((ROOT / "crates" / crate).glob("must-fail*/*.edit"), key=lambda e: e.stem)
         if not edits:
             continue

@@ -11,6 +11,8 @@ on directly. With --check the stored picture is compared with what would be draw
 import pathlib
 import sys
 
+import crates
+
 ROOT = pathlib.Path(__file__).resolve().parent.parent
 WIDE, HIGH, GAP_X, GAP_Y, EDGE, FRAME = 122, 28, 26, 54, 34, 10
 TESTS = ("vectors", "probes", "bench")
@@ -47,15 +49,10 @@ PARTS = {
 }  # fmt: skip
 
 
-def crates():
+def own():
     """Each crate with the crates of this repository that it names."""
-    named = {}
-    for line in (ROOT / "crates.txt").read_text().splitlines():
-        line = line.split("#")[0].strip()
-        if line:
-            head, rest = line.split(":")
-            named[head.split()[0]] = rest.split()  # what else stands before the colon says how the crate is built
-    return {name: [d for d in rest if d in named] for name, rest in named.items()}
+    on = crates.uses()
+    return {name: [d for d in libraries if d in on] for name, libraries in on.items()}
 
 
 def below(deps):
@@ -158,7 +155,7 @@ def text(deps):
 
 
 def main(args):
-    deps = crates()
+    deps = own()
     if args == ["--text"]:
         sys.stdout.write(text(deps))
     elif args == ["--check"]:

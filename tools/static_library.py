@@ -11,14 +11,10 @@ import shutil
 import subprocess
 import sys
 
+import crates
+
 ROOT = pathlib.Path(__file__).resolve().parent.parent
 KIT = pathlib.Path(shutil.which("rattle") or "rattle").resolve().parent.parent
-
-
-def uses():
-    """The crates and the libraries that each stands on, as crates.txt lists them."""
-    rows = [line.split(":") for line in (ROOT / "crates.txt").read_text().splitlines() if ":" in line and not line.startswith("#")]
-    return {named.split()[0]: on.split() for named, on in rows}
 
 
 def below(name, on):
@@ -41,7 +37,7 @@ def words(name, on, to):
 
 
 def main(names):
-    on = uses()
+    on = crates.uses()
     folder = ROOT / "target/staticlib"
     folder.mkdir(parents=True, exist_ok=True)
     building = []

@@ -159,7 +159,7 @@ struct Archived<'a> {
 
 impl<'a> Archived<'a> {
     // The bytes with their row count. Reason 10: the count is too large, or the bytes are not as many as it says. The count is judged before its
-    // length is made: that of a large one would wrap.
+    // length is made: that of a large one would wrap. The first test is apart: with the others it would read the count three times.
     #[tactic(auto, unfolding(crate::specs::Archives::torn))]
     fn judge(bytes: &'a [u8]) -> Result<Archived<'a>, Refusal>
         ensures { MatchResult result (λ archived. (archived.bytes.now ≡ bytes.now) × (torn bytes.now ≡ Fine)) (λ reason. torn bytes.now ≡ Declined reason) }
@@ -168,10 +168,7 @@ impl<'a> Archived<'a> {
             return Err(Refusal::Torn);
         }
         let rows = archived_rows(bytes);
-        if MAX_ROWS < rows {
-            return Err(Refusal::Torn);
-        }
-        if bytes.len() != archive_length(rows) {
+        if MAX_ROWS < rows || bytes.len() != archive_length(rows) {
             return Err(Refusal::Torn);
         }
         Ok(Archived { bytes, rows })

@@ -1,5 +1,5 @@
 -- Printed rows: the words of a row and of its sum as blocks of the two arrays, how long their lines can be, that parts of them are the whole (rows_join),
--- that a part is made of what is left of the arrays (rows_of_parts), and a turn of the loop that puts them. Assumes nothing.
+-- that a part is made of what is left of the arrays (rows_of_parts) or of their first words (rows_of_first), and a turn of the loop that puts them. Assumes nothing.
 use Prim.Native.Nat.{ℕ, zero, suc, ◌+◌, ◌-◌, ◌*◌, ◌≤◌, ◌<◌}
 use mathlib.Core.Path.{◌≡◌, refl, sym, ap, ap₂, ◌∙◌}
 use mathlib.Core.List.{List, [], ◌∷◌, ◌++◌, append-nil, append_assoc}
@@ -7,11 +7,11 @@ use native.Mathlib.Nat.{zero-add, add-zero, add-suc}
 use native.Mathlib.Numerals.{add-one}
 use native.Mathlib.Omega.{arith}
 use lib.ListN.{length, get_or, take, drop, length-append, length-drop}
-use lib.Seq.{take_at, drop_at, drop-drop, get_or-drop}
+use lib.Seq.{take_at, drop_at, drop-drop, get_or-drop, get_or-take}
 use borrow.Rule.Slice.PartMut.{put_mid}
 use Rattle.transcript.proofs.Rows.{words_at, part_words, row_words_lem}
 use Rattle.xfield.specs.Extension.{Ext}
-use Rattle.table.specs.Columns.{Row, row_at, aux_at, element_at, main_width, aux_width}
+use Rattle.table.specs.Columns.{Row, row_at, row_count, aux_at, element_at, main_width, aux_width}
 use Rattle.table.specs.RowWords.{row_words}
 use Rattle.sums.specs.RunningSum.{element_words}
 use Rattle.text.specs.Lines.{row_line}
@@ -56,18 +56,36 @@ words_left : (xs : List ℕ) (a b j : ℕ) → a + b ≡ j → (n : ℕ) → get
 words_left xs a b j e n =
     ap₂ (λ (x : ℕ) (l : List ℕ). x ∷ l) (get_or-drop a xs b 0 ∙ ap (λ (k : ℕ). get_or xs k 0) e) (words_left_from xs a b j e 1 n)
 
+-- words of the first m of an array
+words_first_from : (xs : List ℕ) (m j o n : ℕ) → j + o + n ≤ m → words_at (take m xs) j o n ≡ words_at xs j o n
+words_first_from xs m j o zero h = refl
+words_first_from xs m j o (suc n) h =
+    ap₂ (λ (x : ℕ) (l : List ℕ). x ∷ l) (get_or-take m xs (j + o) 0 (omega (arith, h))) (words_first_from xs m j (suc o) n (omega (arith, h)))
+
+words_first : (xs : List ℕ) (m j n : ℕ) → j + 1 + n ≤ m → get_or (take m xs) j 0 ∷ words_at (take m xs) j 1 n ≡ get_or xs j 0 ∷ words_at xs j 1 n
+words_first xs m j n h =
+    ap₂ (λ (x : ℕ) (l : List ℕ). x ∷ l) (get_or-take m xs j 0 (omega (arith, h))) (words_first_from xs m j 1 n h)
+
 -- the block of w words at number i comes, and the words of the others are left
 module _ (w i : ℕ) (xs block rest : List ℕ) (comes : drop (w * i) xs ≡ block ++ rest) (whole : length block ≡ w) where
   block_lem : block ≡ take w (drop (w * i) xs)
   block_lem = sym (take_at block rest w whole) ∙ ap (take w) (sym comes)
 
-  block_within : 0 < w → w * i + w ≤ length xs
+  pub block_within : 0 < w → w * i + w ≤ length xs
   block_within h = omega (arith, ap length comes, length-drop (w * i) xs, length-append block rest)
 
   pub left_lem : (j : ℕ) → j ≡ i + 1 → rest ≡ drop (w * j) xs
   left_lem j next =
       let e : w * i + w ≡ w * j = rw next (omega arith) in
       sym (drop_at block rest w whole) ∙ ap (drop w) (sym comes) ∙ drop-drop w (w * i) xs ∙ ap (λ (k : ℕ). drop k xs) e
+
+-- all rows came where the words of no more are left, or of no more sums
+pub no_more_rows : (table : List ℕ) (i : ℕ) → i ≤ row_count table → length (drop (main_width * i) table) < main_width → i ≡ row_count table
+no_more_rows table i within none = omega (arith, within, none, length-drop (main_width * i) table)
+
+pub no_more_sums : (table aux : List ℕ) (i : ℕ) → i ≤ row_count table → aux_width * row_count table ≤ length aux
+    → length (drop (aux_width * i) aux) < aux_width → i ≡ row_count table
+no_more_sums table aux i within enough none = omega (arith, within, enough, none, length-drop (aux_width * i) aux)
 
 -- a row comes with its sum
 pub pair_lem : (table aux : List ℕ) (i : ℕ) (row words sum sums : List ℕ) → drop (main_width * i) table ≡ row ++ words → length row ≡ main_width
@@ -107,6 +125,19 @@ module _ (table aux : List ℕ) where
   unfolding printed_rows
   rows_of_parts from zero = refl
   rows_of_parts from (suc n) = ap₂ (λ (lines words : List ℕ). lines ++ row_line words) (rows_of_parts from n) (row_of_parts from n)
+
+  -- of which it has the first k
+  row_of_first : (k i : ℕ) → i < k → printed_row (take (main_width * k) table) (take (aux_width * k) aux) i ≡ printed_row table aux i
+  unfolding row_at element_at
+  row_of_first k i h =
+      ap₂ (λ (a b : List ℕ). a ++ b)
+      (words_first table (main_width * k) (main_width * i) 9 (omega (arith, h)))
+      (words_first aux (aux_width * k) (aux_width * i) 2 (omega (arith, h)))
+
+  pub rows_of_first : (k n : ℕ) → n ≤ k → printed_rows (take (main_width * k) table) (take (aux_width * k) aux) 0 n ≡ printed_rows table aux 0 n
+  unfolding printed_rows
+  rows_of_first k zero h = refl
+  rows_of_first k (suc n) h = ap₂ (λ (lines words : List ℕ). lines ++ row_line words) (rows_of_first k n (omega (arith, h))) (row_of_first k (0 + n) (omega (arith, h)))
 
   -- ---- the loop
   pub no_rows : (t : Text) → HasRoom t 0 → Adds t (printed_rows table aux 0 0) t

@@ -3,6 +3,7 @@
 #![tactic(auto)]
 
 ghost use Rattle.std.specs.Prelude.{◌+◌, ◌*◌, ◌≤◌, false, true, ◌≡◌, ◌++◌, length, replicate, Ok, MatchResult};
+ghost use Rattle.table.specs.Columns.{row_count};
 ghost use Rattle.archive.specs.Archives.{archived_rows};
 ghost use Rattle.text.specs.Lines.{row_line};
 ghost use Rattle.text.specs.Put.{Put, HasRoom, Adds};
@@ -17,7 +18,7 @@ ghost use Rattle.archive_text.specs.Unpacking.{printed_rows, too_many_rows, unpa
 
 use numbers::Reader;
 use table::{AuxRow, MainRow};
-use table_text::{HEAD, Lent, MAX_ROWS, ROWS_AT, TableSheet};
+use table_text::{Lent, MAX_ROWS, TableSheet};
 use text::Text;
 use words::Refusal;
 
@@ -70,7 +71,32 @@ impl From<Refusal> for Fault {
     }
 }
 
+impl Fault {
+    // Puts its line at the front of `out`; answers the line's length.
+    fn put(self, out: &mut [u8]) -> usize
+        requires { max_answer ≤ length out.old }
+        ensures { Put out.old 0 (fault_line self) out.new result }
+    {
+        let mut text = Text::new(out);
+        self.put_line(&mut text);
+        text.len()
+    }
+
+    // Puts its line.
+    fn put_line(self, text: &mut Text)
+        requires { HasRoom text.old max_answer }
+        ensures { Adds text.old (fault_line self) text.new }
+    {
+        match self {
+            Fault::Taken(taken) => table_text::put_fault(text, taken),
+            Fault::Refused(reason) => text.put_refused(reason),
+        }
+    }
+}
+
 // Room for an archive of the most rows, and a byte more, by which a longer one is told: all 0.
+// No array of this length in `main`: with one the check of `u32archive::main` ran out of stack. And a room of ones, or a byte less (edits `room_of_ones`,
+// `room_a_byte_less`, in code and clause of four bytes), is refused.
 pub fn room() -> [u8; MAX_BYTES + 1]
     ensures { result ≡ replicate 1703945 0 }
 {
@@ -78,6 +104,7 @@ pub fn room() -> [u8; MAX_BYTES + 1]
 }
 
 // Room for the sums of the most rows: all 0.
+// No `[0; N]` in `main`: a room of ones (edit `sums_room_of_ones`) is refused by this clause, and in `main`, which promises nothing, it was not.
 pub fn sums_room() -> [u64; AuxRow::WIDTH * MAX_ROWS as usize]
     ensures { result ≡ replicate 49152 0 }
 {
@@ -92,27 +119,6 @@ pub fn asked(argument: &[u8]) -> Option<Task>
         b"pack" => Some(Task::Pack),
         b"unpack" => Some(Task::Unpack),
         _ => None,
-    }
-}
-
-// Puts the line of a fault at the front of `out`; answers its length.
-fn put_fault(fault: Fault, out: &mut [u8]) -> usize
-    requires { max_answer ≤ length out.old }
-    ensures { Put out.old 0 (fault_line fault) out.new result }
-{
-    let mut text = Text::new(out);
-    put_fault_line(&mut text, fault);
-    text.len()
-}
-
-// Puts the line of a fault.
-fn put_fault_line(text: &mut Text, fault: Fault)
-    requires { HasRoom text.old max_answer }
-    ensures { Adds text.old (fault_line fault) text.new }
-{
-    match fault {
-        Fault::Taken(taken) => table_text::put_fault(text, taken),
-        Fault::Refused(reason) => text.put_refused(reason),
     }
 }
 
@@ -133,16 +139,13 @@ fn pack_table(
 }
 
 // The archive for a text that has a table of so many rows. `out` stands beside what is lent: it is the caller's afterwards, and the `ensures` say of it
-// what it holds.
+// what it holds. This and `pack_ended` are no methods: `Lent` is `table_text`'s, and a struct's methods stand in its crate.
 fn pack_rows(lent: &mut Lent, rows: usize, out: &mut [u8]) -> Result<usize, Fault>
     requires { (max_archive ≤ length out.old) × (rows ≤ most_rows) }
     ensures { IsArchived (pack_taken (Ok rows) lent.old.words.now lent.old.aux.now) out.old out.new result }
 {
-    let to = HEAD + MainRow::WIDTH * rows;
-    let sums = AuxRow::WIDTH * rows;
-    let words = &*lent.words;
-    let aux = &mut *lent.aux;
-    pack_table(&words[..ROWS_AT], &words[HEAD..to], &mut aux[..sums], out)
+    let (challenges, table, aux) = table_text::parts(lent.words, lent.aux, rows);
+    pack_table(challenges, table, aux, out)
 }
 
 // The archive for a text that ended here.
@@ -176,7 +179,7 @@ pub fn pack(
     // it, nor that it is untouched where there is no fault.
     match pack_ended(stage, &mut lent, out) {
         Ok(length) => Ok(length),
-        Err(fault) => Err(put_fault(fault, out)),
+        Err(fault) => Err(fault.put(out)),
     }
 }
 
@@ -219,7 +222,7 @@ pub fn unpack(
     // No `map_err` here either: as in `pack`.
     match unpack_all(bytes, table, aux) {
         Ok(rows) => Ok(rows),
-        Err(fault) => Err(put_fault(fault, out)),
+        Err(fault) => Err(fault.put(out)),
     }
 }
 
@@ -235,16 +238,16 @@ fn put_row(text: &mut Text, row: &[u64], sum: &[u64])
     text.put_row(&words);
 }
 
-// Puts the lines of the first rows, so many, at the front of `out`; answers their length. Of parts of a table and of its sums they are the lines of the
-// rows from one on (`rows_of_parts`).
-pub fn put_rows(table: &[u64], aux: &[u64], rows: usize, out: &mut [u8]) -> usize
-    requires { (10 * rows ≤ length table.now) × (3 * rows ≤ length aux.now) × (max_row_line * rows ≤ length out.old) }
-    ensures { Put out.old 0 (printed_rows table.now aux.now 0 rows) out.new result }
+// Puts the lines of all rows of a table, each with its sum, at the front of `out`; answers their length. Of parts of a table and of its sums they are the
+// lines of the rows from one on (`rows_of_parts`), so many as are whole in the part (`rows_of_first`).
+pub fn put_rows(table: &[u64], aux: &[u64], out: &mut [u8]) -> usize
+    requires { (3 * row_count table.now ≤ length aux.now) × (max_row_line * row_count table.now ≤ length out.old) }
+    ensures { Put out.old 0 (printed_rows table.now aux.now 0 (row_count table.now)) out.new result }
 {
     let mut text = Text::new(out);
     let words = table.chunks_exact(MainRow::WIDTH);
     let sums = aux.chunks_exact(AuxRow::WIDTH);
-    for (row, sum) in words.zip(sums).take(rows) {
+    for (row, sum) in words.zip(sums) {
         put_row(&mut text, row, sum);
     }
     text.len()

@@ -156,16 +156,18 @@ pub fn put_table(text: &mut Text, settings: &[u64], jobs: &[u64])
     }
 }
 
-// The table, where there is a setting to try.
-fn put_sheet(text: &mut Text, words: &[u64], sheet: BatchSheet)
-    requires { (max_words ≤ length words.now) × (Fits sheet × HasRoom text.old max_answer) }
-    ensures { Adds text.old (sheet_text (take sheet.settings words.now) (take sheet.jobs (drop most_settings words.now))) text.new }
-{
-    if sheet.settings == 0 {
-        return text.put_str("no setting in the first line\n");
+impl BatchSheet {
+    // The table, where there is a setting to try.
+    fn put(self, text: &mut Text, words: &[u64])
+        requires { (max_words ≤ length words.now) × (Fits self × HasRoom text.old max_answer) }
+        ensures { Adds text.old (sheet_text (take self.settings words.now) (take self.jobs (drop most_settings words.now))) text.new }
+    {
+        if self.settings == 0 {
+            return text.put_str("no setting in the first line\n");
+        }
+        let to = MAX_SETTINGS + self.jobs;
+        put_table(text, &words[..self.settings], &words[MAX_SETTINGS..to])
     }
-    let to = MAX_SETTINGS + sheet.jobs;
-    put_table(text, &words[..sheet.settings], &words[MAX_SETTINGS..to])
 }
 
 // The line of a text with more numbers than are taken.
@@ -192,14 +194,14 @@ fn put_fault(text: &mut Text, fault: Fault)
 }
 
 // What a text leads to that ended so.
-// That there are words for all numbers is said here, in `put_sheet` and in `put_answer`: a struct that keeps it would be longer than two of these clauses.
+// That there are words for all numbers is said here, in `BatchSheet::put` and in `put_answer`: a struct that keeps it would be longer than two of these clauses.
 fn put_ended(text: &mut Text, ended: Result<Reader<BatchSheet>, Fault>, words: &[u64])
     requires { (max_words ≤ length words.now) × (HasRoom text.old max_answer × Within ended) }
     ensures { Adds text.old (taken_text ended words.now) text.new }
 {
     match ended {
         Err(fault) => put_fault(text, fault),
-        Ok(reader) => put_sheet(text, words, reader.sheet),
+        Ok(reader) => reader.sheet.put(text, words),
     }
 }
 

@@ -20,7 +20,7 @@ use Rattle.words.proofs.Outcomes.{done_fine, leaves_done, leaves_declined}
 use Rattle.words.proofs.Sets.{take_sets_front}
 use Rattle.batches.specs.declared.Batch.{Batch}
 use Rattle.batches.specs.Batches.{batches_of, all_rows, padding, setting_reason, batch_reason, batch_words, batch_all, trial_all}
-use Rattle.batches.specs.Splitting.{Splits, Batching}
+use Rattle.batches.specs.Splitting.{total, Splits, Batching}
 use Rattle.batches.proofs.Splitting.{splits}
 use Rattle.batches.proofs.Walking.{fine_tells, all_small}
 
@@ -30,32 +30,32 @@ module _ (jobs : List ℕ) (setting : ℕ) where
   trial_declined e = rw e
 
   -- what it tells that the totals are answered
-  pub record Tried (count pad : ℕ) : Type 0 where
+  pub record Tried (count rows pad : ℕ) : Type 0 where
     pub fine : setting_reason jobs setting ≡ Fine
     pub counted : count ≡ length (batches_of setting jobs)
+    pub totalled : rows ≡ all_rows (batches_of setting jobs)
     pub lacking : pad ≡ padding (batches_of setting jobs)
 
-  pub trial_tells : {count rows pad : ℕ} → done (count ∷ rows ∷ pad ∷ []) ≡ trial_all jobs setting → Tried count pad
+  pub trial_tells : {count rows pad : ℕ} → done (count ∷ rows ∷ pad ∷ []) ≡ trial_all jobs setting → Tried count rows pad
   unfolding trial_all
   trial_tells {count} {rows} {pad} e =
       let told = done_fine (setting_reason jobs setting) _ tt tt (sym e) in
       record {
         fine = told.0;
         counted = ap (λ (l : List ℕ). get_or l 0 0) (sym told.1);
+        totalled = ap (λ (l : List ℕ). get_or l 1 0) (sym told.1);
         lacking = ap (λ (l : List ℕ). get_or l 2 0) (sym told.1);
       }
 
   -- the totals are far below 2^64
   pub trial_bounds : {count rows pad : ℕ} → done (count ∷ rows ∷ pad ∷ []) ≡ trial_all jobs setting → (rows ≤ 137438953472) × (pad ≤ 137438953472)
-  unfolding trial_all
-  trial_bounds {count} {rows} {pad} e =
-      let told = done_fine (setting_reason jobs setting) _ tt tt (sym e) in
-      let small = all_small _ _ told.0 in
-      let r : rows ≡ all_rows (batches_of setting jobs) = ap (λ (l : List ℕ). get_or l 1 0) (sym told.1) in
-      let p : pad ≡ padding (batches_of setting jobs) = ap (λ (l : List ℕ). get_or l 2 0) (sym told.1) in (
-        omega (arith, small.rows),
-        omega (arith, small.lacking),
-      )
+  trial_bounds e =
+      let t = trial_tells e in
+      let small = all_small _ _ t.fine in (omega (arith, t.totalled, small.rows), omega (arith, t.lacking, small.lacking))
+
+  -- all rows are those of the jobs
+  pub trial_rows : {count rows pad : ℕ} → Tried count rows pad → rows ≡ total jobs
+  trial_rows t = t.totalled ∙ (splits jobs setting (fine_tells jobs setting t.fine).none_above).rows_total
 
 -- ---- the answers of `batches`
 
@@ -91,7 +91,7 @@ module _ (jobs : List ℕ) (setting : ℕ) (results : List ℕ) where
       go Fine e t = absurd (declined_not_done reason t)
       go (Declined other) e t = rw (eq-eqb (length results % 3) 0 whole, e) (record { answer = t; left = refl })
 
-    module _ {count pad : ℕ} (t : Tried jobs setting count pad) where
+    module _ {count rows pad : ℕ} (t : Tried jobs setting count rows pad) where
       short_declined : length results / 3 < count → batch_reason jobs setting results ≡ Declined Short
       unfolding batch_reason
       short_declined l =

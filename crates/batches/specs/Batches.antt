@@ -11,7 +11,6 @@ use Rattle.words.specs.declared.Refusal.{Refusal}
 use Rattle.words.specs.declared.Refusal.TheVariants.{Shape, JobAbove, Short}
 use Rattle.list_record.specs.Plan.{padded_height}
 use Rattle.batches.specs.declared.Totals.{Totals}
-use Rattle.batches.specs.declared.Batched.{Batched}
 use Rattle.batches.specs.declared.Batch.{Batch}
 
 -- ---- the batches
@@ -79,9 +78,9 @@ batch_all jobs setting results =
     outcome (batch_reason jobs setting results) (length (batches_of setting jobs) ∷ padding (batches_of setting jobs) ∷ [])
     results (sets results 0 (flat_map batch_words (batches_of setting jobs)))
 
--- what the answer of `batches` means
-abbrev pub batched_answer : Result Batched Refusal → Answer
-batched_answer (Ok b) = done (b.count ∷ b.padding ∷ [])
+-- what the answer of `batches` means: its words are the number of batches and the padding
+abbrev pub batched_answer : Result Totals Refusal → Answer
+batched_answer (Ok t) = done (t.count ∷ t.padding ∷ [])
 batched_answer (Err reason) = declined reason
 
 -- the same with no batch listed: the number of batches, all rows and the padding

@@ -6,7 +6,7 @@ use mathlib.Core.List.{List, [], ◌∷◌, flat_map}
 use Rattle.words.specs.declared.Refusal.{Refusal}
 use Rattle.batches.specs.declared.Batch.{Batch}
 use Rattle.batches.specs.Batches.{all_rows, all_padded, batch_words}
-use Rattle.batches.specs.declared.Batched.{Batched}
+use Rattle.batches.specs.declared.Totals.{Totals}
 
 -- the sum of heights
 unfoldable pub total : List ℕ → ℕ
@@ -41,6 +41,6 @@ pub record Batching (jobs : List ℕ) (setting count padding : ℕ) (results : L
   pub answered : count ≡ length list
   pub listed : take (3 * count) results ≡ flat_map batch_words list
 
-abbrev pub Lawful : (jobs : List ℕ) → (setting : ℕ) → Result Batched Refusal → (after : List ℕ) → Type 0
-Lawful jobs setting (Ok b) after = Batching jobs setting b.count b.padding after
+abbrev pub Lawful : (jobs : List ℕ) → (setting : ℕ) → Result Totals Refusal → (after : List ℕ) → Type 0
+Lawful jobs setting (Ok t) after = Batching jobs setting t.count t.padding after
 Lawful jobs setting (Err reason) after = Unit

@@ -1,7 +1,7 @@
 // Jobs, each so many rows, are gathered in order into batches of at most a number of rows, the setting.
 #![tactic(auto)]
 
-ghost use Rattle.std.specs.Prelude.{◌≡◌, ◌+◌, ◌*◌, ◌-◌, ◌^◌, ◌≤◌, length, drop, Ok};
+ghost use Rattle.std.specs.Prelude.{◌≡◌, ◌+◌, ◌*◌, ◌-◌, ◌^◌, ◌≤◌, length, drop, Ok, IfOk};
 ghost use Rattle.std.specs.Iterator.{YieldsFirst, item_count};
 ghost use mathlib.Core.List.{◌∷◌, flat_map};
 ghost use Rattle.std.proofs.lemmas.List.Edits.{sets};
@@ -10,7 +10,7 @@ ghost use Rattle.words.specs.Refusals.{Fine};
 ghost use Rattle.list_record.specs.Plan.{padded_height};
 ghost use Rattle.batches.specs.Batches.{batch, batches_from, batches_of, some_above, batch_words};
 ghost use Rattle.batches.specs.Batches.{setting_reason, batch_all, batched_answer, trial_all, trial_answer};
-ghost use Rattle.batches.specs.Splitting.{Lawful};
+ghost use Rattle.batches.specs.Splitting.{total, Lawful};
 
 use words::{MAX_JOBS, MAX_ROWS, Refusal};
 
@@ -25,6 +25,24 @@ pub struct Batch {
 }
 
 impl Batch {
+    // The batch that a job of so many rows opens, with those of the later jobs that join it.
+    fn open(rows: u64, later: &[u64], setting: u64) -> Self
+        requires { rows ≤ setting }
+        ensures taken { result.jobs ≤ length later.now + 1 }
+        ensures batches { batches_from setting (batch 1 rows) later.now ≡ result ∷ batches_of setting (drop (result.jobs - 1) later.now) }
+        ensures not_empty { 1 ≤ result.jobs }
+    {
+        let mut batch = Batch { jobs: 1, rows };
+        for height in later {
+            if setting - batch.rows < *height {
+                return batch;
+            }
+            batch.jobs += 1;
+            batch.rows += *height;
+        }
+        batch
+    }
+
     // What it lacks to its padded height.
     fn padding(self) -> u64
         requires { self.rows ≤ 2 ^ 62 }
@@ -54,13 +72,6 @@ pub struct Totals {
     pub padding: u64,
 }
 
-// The number of the batches that are listed, and their padding.
-#[derive(Clone, Copy)]
-pub struct Batched {
-    pub count: u64,
-    pub padding: u64,
-}
-
 // The batches of the jobs that are left, one after the other. Nothing speaks against these jobs and the setting, so that no sum of rows passes a word.
 // `batches` walks over a copy before it walks over the batches themselves.
 #[derive(Clone, Copy)]
@@ -68,24 +79,6 @@ struct EachBatch<'a> {
     jobs: &'a [u64],
     setting: u64,
     ghost fine: { setting_reason jobs.now setting ≡ Fine },
-}
-
-// The batch that a job of so many rows opens, with those of the later jobs that join it.
-fn open_batch(rows: u64, later: &[u64], setting: u64) -> Batch
-    requires { rows ≤ setting }
-    ensures taken { result.jobs ≤ length later.now + 1 }
-    ensures batches { batches_from setting (batch 1 rows) later.now ≡ result ∷ batches_of setting (drop (result.jobs - 1) later.now) }
-    ensures not_empty { 1 ≤ result.jobs }
-{
-    let mut batch = Batch { jobs: 1, rows };
-    for height in later {
-        if setting - batch.rows < *height {
-            return batch;
-        }
-        batch.jobs += 1;
-        batch.rows += *height;
-    }
-    batch
 }
 
 impl Iterator for EachBatch<'_> {
@@ -99,7 +92,7 @@ impl Iterator for EachBatch<'_> {
 
     fn next(&mut self) -> Option<Batch> {
         let (rows, later) = self.jobs.split_first()?;
-        let batch = open_batch(*rows, later, self.setting);
+        let batch = Batch::open(*rows, later, self.setting);
         self.jobs = &later[batch.jobs - 1..];
         Some(batch)
     }
@@ -128,58 +121,56 @@ impl<'a> EachBatch<'a> {
         }
         Ok(EachBatch { jobs, setting })
     }
-}
 
-// The totals of the batches, none of which is written.
-fn tally(each: EachBatch) -> Totals
-    ensures { trial_answer (Ok result) ≡ trial_all each.entry.jobs.now each.entry.setting }
-{
-    let mut totals = Totals {
-        count: 0,
-        rows: 0,
-        padding: 0,
-    };
-    for batch in each {
-        totals.count += 1;
-        totals.rows += batch.rows;
-        totals.padding += batch.padding();
+    // The totals of the batches, none of which is written.
+    fn tally(self) -> Totals
+        ensures { trial_answer (Ok result) ≡ trial_all self.entry.jobs.now self.entry.setting }
+    {
+        let mut totals = Totals {
+            count: 0,
+            rows: 0,
+            padding: 0,
+        };
+        for batch in self {
+            totals.count += 1;
+            totals.rows += batch.rows;
+            totals.padding += batch.padding();
+        }
+        totals
     }
-    totals
+
+    // Writes all batches, which have places.
+    fn write(self, results: &mut [u64])
+        requires { 3 * length (batches_of self.setting self.jobs.now) ≤ length results.old }
+        ensures { results.new ≡ sets results.old 0 (flat_map batch_words (batches_of self.entry.setting self.entry.jobs.now)) }
+    {
+        for (place, batch) in self.enumerate() {
+            words::put_record(results, place, batch.words());
+        }
+    }
 }
 
 // What a setting gives for these jobs.
 pub fn try_setting(jobs: &[u64], setting: u64) -> Result<Totals, Refusal>
     ensures { trial_answer result ≡ trial_all jobs.now setting }
 {
-    Ok(tally(EachBatch::new(jobs, setting)?))
-}
-
-// Writes all batches, which have places.
-fn write_batches(each: EachBatch, results: &mut [u64])
-    requires { 3 * length (batches_of each.setting each.jobs.now) ≤ length results.old }
-    ensures { results.new ≡ sets results.old 0 (flat_map batch_words (batches_of each.entry.setting each.entry.jobs.now)) }
-{
-    for (place, batch) in each.enumerate() {
-        words::put_record(results, place, batch.words());
-    }
+    Ok(EachBatch::new(jobs, setting)?.tally())
 }
 
 // Gathers the jobs into batches and lists them in `results`, three words each; words after the last one stay.
-pub fn batches(jobs: &[u64], setting: u64, results: &mut [u64]) -> Result<Batched, Refusal>
+pub fn batches(jobs: &[u64], setting: u64, results: &mut [u64]) -> Result<Totals, Refusal>
     ensures exact { Leaves (batch_all jobs.now setting results.old) (batched_answer result) results.new }
     ensures law { Lawful jobs.now setting result results.new }
+    ensures rows { IfOk result (λ totals. totals.rows ≡ total jobs.now) }
 {
     if results.len() % BATCH_WIDTH != 0 {
         return Err(Refusal::Shape);
     }
     let each = EachBatch::new(jobs, setting)?;
-    let totals = tally(each);
+    let totals = each.tally();
     if ((results.len() / BATCH_WIDTH) as u64) < totals.count {
         return Err(Refusal::Short);
     }
-    write_batches(each, results);
-    Ok(Batched {
-        count: totals.count,
-        padding: totals.padding,
-    })
+    each.write(results);
+    Ok(totals)
 }

@@ -17,7 +17,7 @@ use isa::Opcode;
 use table::{Challenges, MainRow, RowPair};
 use xfield::XFieldElement;
 
-// ---- one row
+// ---- one row. Free functions, here and below: methods stand in the crate of their struct, and row and pair are `table`'s.
 fn is_flagged(row: MainRow) -> bool
     ensures { result ≡ true → Flagged row.copy_flag.0 row.bits.0 row.lookup_multiplicity.0 }
 {
@@ -77,7 +77,7 @@ pub fn is_plain_row(row: MainRow) -> bool
         && is_ended(row)
 }
 
-// ---- two rows. Free functions, since methods stand in the crate of their struct and a pair is `table`'s.
+// ---- two rows
 // The row ends its section.
 #[tactic(auto, using(fill_results::proofs::Results::end_zero))]
 fn is_end(row: MainRow) -> bool

@@ -4,18 +4,18 @@
 // Each constraint by its place and the name that the source and air/specs/Constraints.antt give it, under the function that computes it:
 // `starts`, of the initial constraints
 //    0 running_sum_log_derivative_starts_correctly
-// `flag_consistency`
+// `FlagConsistency::of`
 //    0 copy_flag_is_bit
 //    1 copy_flag_is_0_or_bits_is_0
 //    2 bits_minus_33_inv_is_inverse_of_bits_minus_33
 //   14 if_copy_flag_is_0_then_lookup_multiplicity_is_0
-// `inverse_consistency` of LHS
+// `InverseConsistency::of`, of LHS
 //    3 lhs_inv_is_0_or_the_inverse_of_lhs
 //    4 lhs_is_0_or_lhs_inverse_is_the_inverse_of_lhs
-// `inverse_consistency` of RHS
+// `InverseConsistency::of`, of RHS
 //    5 rhs_inv_is_0_or_the_inverse_of_rhs
 //    6 rhs_is_0_or_rhs_inverse_is_the_inverse_of_rhs
-// `result_consistency`
+// `ResultConsistency::of`
 //    7 result_is_initialized_correctly_for_lt_with_copy_flag_0
 //    8 result_is_initialized_correctly_for_lt_with_copy_flag_1
 //    9 result_is_initialized_correctly_for_and
@@ -101,7 +101,7 @@ impl Deselectors {
     }
 }
 
-// ---- the running sum
+// ---- a base element as an extension element
 // (v, 0, 0), with v as it is.
 pub fn base_value(v: BFieldElement) -> XFieldElement
     ensures { ext_of result ≡ base_value v.0 }
@@ -110,6 +110,7 @@ pub fn base_value(v: BFieldElement) -> XFieldElement
     XFieldElement(v, zero, zero)
 }
 
+// ---- the running sum
 // CopyFlag of a row times what a step of the running sum, times the row's denominator, is above its multiplicity.
 #[tactic(auto, unfolding(table::specs::Layouts::row_of))]
 pub fn accumulated(challenges: Challenges, row: MainRow, step: XFieldElement) -> XFieldElement
@@ -151,18 +152,20 @@ struct FlagConsistency {
     if_copy_flag_is_0_then_lookup_multiplicity_is_0: BFieldElement,
 }
 
-fn flag_consistency(row: MainRow) -> FlagConsistency
-    ensures { FlagConsistencyOf (row_of row) result }
-{
-    let copy_flag_minus_1 = row.copy_flag - BFieldElement::ONE;
-    FlagConsistency {
-        copy_flag_minus_1,
-        copy_flag_is_bit: row.copy_flag * (BFieldElement::ONE - row.copy_flag),
-        copy_flag_is_0_or_bits_is_0: row.copy_flag * row.bits,
-        bits_minus_33_inv_is_inverse_of_bits_minus_33: BFieldElement::ONE
-            - row.bits_minus_33_inv * (row.bits - BFieldElement(33)),
-        if_copy_flag_is_0_then_lookup_multiplicity_is_0: copy_flag_minus_1
-            * row.lookup_multiplicity,
+impl FlagConsistency {
+    fn of(row: MainRow) -> Self
+        ensures { FlagConsistencyOf (row_of row) result }
+    {
+        let copy_flag_minus_1 = row.copy_flag - BFieldElement::ONE;
+        FlagConsistency {
+            copy_flag_minus_1,
+            copy_flag_is_bit: row.copy_flag * (BFieldElement::ONE - row.copy_flag),
+            copy_flag_is_0_or_bits_is_0: row.copy_flag * row.bits,
+            bits_minus_33_inv_is_inverse_of_bits_minus_33: BFieldElement::ONE
+                - row.bits_minus_33_inv * (row.bits - BFieldElement(33)),
+            if_copy_flag_is_0_then_lookup_multiplicity_is_0: copy_flag_minus_1
+                * row.lookup_multiplicity,
+        }
     }
 }
 
@@ -174,15 +177,17 @@ struct InverseConsistency {
     value_is_0_or_inverse_is_the_inverse: BFieldElement,
 }
 
-#[tactic(auto, unfolding(air::specs::Constraints::one_minus_product_of))]
-fn inverse_consistency(value: BFieldElement, inverse: BFieldElement) -> InverseConsistency
-    ensures { InverseConsistencyOf value.0 inverse.0 result }
-{
-    let one_minus_product = BFieldElement::ONE - value * inverse;
-    InverseConsistency {
-        one_minus_product,
-        inv_is_0_or_the_inverse: inverse * one_minus_product,
-        value_is_0_or_inverse_is_the_inverse: value * one_minus_product,
+impl InverseConsistency {
+    #[tactic(auto, unfolding(air::specs::Constraints::one_minus_product_of))]
+    fn of(value: BFieldElement, inverse: BFieldElement) -> Self
+        ensures { InverseConsistencyOf value.0 inverse.0 result }
+    {
+        let one_minus_product = BFieldElement::ONE - value * inverse;
+        InverseConsistency {
+            one_minus_product,
+            inv_is_0_or_the_inverse: inverse * one_minus_product,
+            value_is_0_or_inverse_is_the_inverse: value * one_minus_product,
+        }
     }
 }
 
@@ -198,37 +203,41 @@ struct ResultConsistency {
     if_log_2_floor_on_0_then_vm_crashes: BFieldElement,
 }
 
-#[tactic(auto, using(crate::proofs::Products::shared_products), unfolding(table::specs::Layouts::row_of))]
-fn result_consistency(
-    row: MainRow,
-    flag: FlagConsistency,
-    lhs: InverseConsistency,
-    rhs: InverseConsistency,
-) -> ResultConsistency
-    ensures { ResultConsistencyOf (row_of row) flag.copy_flag_minus_1.0 lhs.one_minus_product.0 rhs.one_minus_product.0 result }
-{
-    let deselectors = Deselectors::of(row.ci);
-    let both = lhs.one_minus_product * rhs.one_minus_product;
-    let lt = deselectors.lt * both;
-    let log_2_floor = deselectors.log_2_floor * lhs.one_minus_product;
-    ResultConsistency {
-        for_lt_with_copy_flag_0: lt * flag.copy_flag_minus_1 * (row.result - BFieldElement(2)),
-        for_lt_with_copy_flag_1: lt * row.copy_flag * row.result,
-        for_and: deselectors.and * both * row.result,
-        for_pow: deselectors.pow * rhs.one_minus_product * (row.result - BFieldElement::ONE),
-        for_log_2_floor: log_2_floor * flag.copy_flag_minus_1 * (row.result + BFieldElement::ONE),
-        for_pop_count: deselectors.pop_count * lhs.one_minus_product * row.result,
-        if_log_2_floor_on_0_then_vm_crashes: log_2_floor * row.copy_flag,
+impl ResultConsistency {
+    #[tactic(auto, using(crate::proofs::Products::shared_products), unfolding(table::specs::Layouts::row_of))]
+    fn of(
+        row: MainRow,
+        flag: FlagConsistency,
+        lhs: InverseConsistency,
+        rhs: InverseConsistency,
+    ) -> Self
+        ensures { ResultConsistencyOf (row_of row) flag.copy_flag_minus_1.0 lhs.one_minus_product.0 rhs.one_minus_product.0 result }
+    {
+        let deselectors = Deselectors::of(row.ci);
+        let both = lhs.one_minus_product * rhs.one_minus_product;
+        let lt = deselectors.lt * both;
+        let log_2_floor = deselectors.log_2_floor * lhs.one_minus_product;
+        ResultConsistency {
+            for_lt_with_copy_flag_0: lt * flag.copy_flag_minus_1 * (row.result - BFieldElement(2)),
+            for_lt_with_copy_flag_1: lt * row.copy_flag * row.result,
+            for_and: deselectors.and * both * row.result,
+            for_pow: deselectors.pow * rhs.one_minus_product * (row.result - BFieldElement::ONE),
+            for_log_2_floor: log_2_floor
+                * flag.copy_flag_minus_1
+                * (row.result + BFieldElement::ONE),
+            for_pop_count: deselectors.pop_count * lhs.one_minus_product * row.result,
+            if_log_2_floor_on_0_then_vm_crashes: log_2_floor * row.copy_flag,
+        }
     }
 }
 
 pub fn consistency_constraints(row: MainRow) -> [XFieldElement; CONSISTENCY_COUNT]
     ensures { map ext_of result ≡ consistency_constraints (row_of row) }
 {
-    let flag = flag_consistency(row);
-    let lhs = inverse_consistency(row.lhs, row.lhs_inv);
-    let rhs = inverse_consistency(row.rhs, row.rhs_inv);
-    let result = result_consistency(row, flag, lhs, rhs);
+    let flag = FlagConsistency::of(row);
+    let lhs = InverseConsistency::of(row.lhs, row.lhs_inv);
+    let rhs = InverseConsistency::of(row.rhs, row.rhs_inv);
+    let result = ResultConsistency::of(row, flag, lhs, rhs);
     [
         flag.copy_flag_is_bit,
         flag.copy_flag_is_0_or_bits_is_0,

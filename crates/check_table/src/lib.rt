@@ -16,6 +16,7 @@ pub type Verdict = Result<Option<Nonzero>, Refusal>;
 
 // ---- refusals
 // Reasons 1, 7 and 8, in this order; no word is read where 1 or 7 is met.
+#[tactic(auto, using(table::proofs::Rows::shaped), unfolding(air::specs::Check::check_reason))]
 fn judge<'a>(
     table: &'a [u64],
     aux: &'a [u64],
@@ -29,10 +30,7 @@ fn judge<'a>(
     if table.len() / MainRow::WIDTH == 0 {
         return Err(Refusal::Short);
     }
-    if !table::are_reduced(table, challenges) {
-        return Err(Refusal::Unreduced);
-    }
-    if !table::all_reduced(aux) {
+    if !table::are_reduced(table, challenges) || !table::all_reduced(aux) {
         return Err(Refusal::Unreduced);
     }
     Ok(JudgedTable {

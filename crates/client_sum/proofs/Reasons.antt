@@ -3,14 +3,13 @@
 -- against those before it. The first reason of a walk is found at one request, with nothing before it (first_place). Assumes nothing.
 use Prim.Native.Nat.{ℕ, zero, suc, ◌+◌, ◌<◌, ◌%◌}
 use mathlib.Core.Path.{◌≡◌, refl, sym, ap, ◌∙◌}
-use mathlib.Core.Logic.{◌≢◌}
 use mathlib.Core.Bool.{Bool, true, false, not, ◌&&◌}
 use mathlib.Core.List.{List}
 use native.Mathlib.Nat.{add-zero, zero-add}
 use native.Mathlib.Omega.{arith}
 use lib.Dec.{eqb, ltb}
 use lib.ListN.{length}
-use borrow.Author.Tests.{eq-eqb, ne_eqb}
+use borrow.Author.Tests.{eq-eqb}
 use Rattle.words.specs.Answers.{Answer, done, declined}
 use Rattle.words.specs.Outcomes.{answered}
 use Rattle.words.specs.Refusals.{refusal_number, first_reason, decline_if, or_else, Judgement, Fine, Declined}
@@ -110,14 +109,6 @@ module _ (requests challenges : List ℕ) where
   is_fine i a z = or_next _ a ∙ rw (ok_not_zero i, z)
 
   -- ---- the tests
-  pub torn_requests : length requests % entry_width ≢ 0 → client_reason requests challenges ≡ Declined Shape
-  unfolding client_reason client_shape
-  torn_requests h = rw (ne_eqb (length requests % entry_width) 0 h)
-
-  pub no_challenges : length requests % entry_width ≡ 0 → challenges_shape challenges ≡ false → client_reason requests challenges ≡ Declined Shape
-  unfolding client_reason client_shape
-  no_challenges h s = rw (eq-eqb (length requests % entry_width) 0 h, s)
-
   right_shape : length requests % entry_width ≡ 0 → challenges_shape challenges ≡ true → client_shape requests challenges ≡ true
   unfolding client_shape
   right_shape h s = rw (eq-eqb (length requests % entry_width) 0 h, s)
@@ -135,12 +126,9 @@ module _ (requests challenges : List ℕ) where
   unfolding client_reason
   by_requests s r = rw (s, r)
 
-  module _ (whole : length requests % entry_width ≡ 0) (fifteen : challenges_shape challenges ≡ true) where
-    pub unreduced : all_reduced challenges ≡ false → client_reason requests challenges ≡ Declined Unreduced
-    unreduced r = by_words (right_shape whole fifteen) r
-
-    pub request_by_request : all_reduced challenges ≡ true → client_reason requests challenges ≡ first_reason judge 0 count
-    request_by_request r = by_requests (right_shape whole fifteen) r
+  pub request_by_request : length requests % entry_width ≡ 0 → challenges_shape challenges ≡ true → all_reduced challenges ≡ true
+      → client_reason requests challenges ≡ first_reason judge 0 count
+  request_by_request whole fifteen r = by_requests (right_shape whole fifteen) r
 
   -- ---- the answer
   pub refused : {reason : Refusal} → client_reason requests challenges ≡ Declined reason → declined reason ≡ client_all requests challenges

@@ -26,14 +26,11 @@ fn denominator_of(e: U32TableEntry, challenges: Challenges) -> XFieldElement
 
 // From (0, 0, 0), each request adds the inverse of its denominator. It refuses words that are no whole requests, or not fifteen challenge words;
 // a challenge word p or more; and, request by request, one that is not admitted or whose denominator is zero.
-#[tactic(auto, using(table::proofs::Rows::challenges_shaped))]
+#[tactic(auto, using(table::proofs::Rows::challenges_shaped), unfolding(crate::specs::Client::client_all, crate::specs::Client::client_reason, crate::specs::Client::client_shape))]
 pub fn compute_terminal(requests: &[u64], challenges: &[u64]) -> Result<XFieldElement, Refusal>
     ensures { terminal_answer result ≡ client_all requests.now challenges.now }
 {
-    if requests.len() % U32TableEntry::WIDTH != 0 {
-        return Err(Refusal::Shape);
-    }
-    if !Challenges::has_shape(challenges) {
+    if requests.len() % U32TableEntry::WIDTH != 0 || !Challenges::has_shape(challenges) {
         return Err(Refusal::Shape);
     }
     if !table::all_reduced(challenges) {

@@ -35,6 +35,29 @@ impl<'a> Rows<'a> {
             challenges: Challenges::from_words(challenges),
         }
     }
+
+    // Reasons 1, 8 and 9, in this order; no word is read where the shapes are wrong, and old aux words never. Where one pass finds nothing against
+    // the rows, there is none; else each reason is asked for. To ask for each alone takes 5 to 9 percent longer on a table without a reason, since it
+    // is then read twice (docs/DECISIONS.md). The rows come back, where there is no reason.
+    #[tactic(auto, using(crate::proofs::Reasons::judge_steps))]
+    fn judge(table: &'a [u64], aux: &[u64], challenges: &[u64]) -> Result<Rows<'a>, Refusal>
+        ensures { Judged table.now aux.now challenges.now result }
+    {
+        if !table::have_shapes(table, aux, challenges) {
+            return Err(Refusal::Shape);
+        }
+        let rows = Rows::new(table, challenges);
+        if table::all_reduced(challenges) && rows.are_fine() {
+            return Ok(rows);
+        }
+        if !table::are_reduced(table, challenges) {
+            return Err(Refusal::Unreduced);
+        }
+        if !sums::denominators_ok(&rows) {
+            return Err(Refusal::Flat);
+        }
+        Ok(rows)
+    }
 }
 
 impl Summands for Rows<'_> {
@@ -60,39 +83,18 @@ impl Summands for Rows<'_> {
     }
 }
 
-// Yes: every word of the table is below p, and nothing is against the denominator of any row. One pass over the rows for both.
-fn are_rows_fine(rows: &Rows) -> bool
-    requires { length rows.now.table.now ≡ main_width * row_count rows.now.table.now }
-    ensures { result ≡ true → (all_reduced rows.now.table.now ≡ true) × (denominators_ok (summands_in rows.now) (row_count rows.now.table.now) ≡ true) }
-{
-    // By number, as `Summands` gives a row's share: with the rows as chunks, each would be cut and read by number both.
-    (0..rows.count()).all(|row| {
-        table::all_reduced(&rows.table[MainRow::WIDTH * row..MainRow::WIDTH * (row + 1)])
-            && sums::denominator_ok(rows, row)
-    })
-}
-
-// Reasons 1, 8 and 9, in this order; no word is read where the shapes are wrong, and old aux words never. Where one pass finds nothing against
-// the rows, there is none; else each reason is asked for. To ask for each alone takes 5 to 9 percent longer on a table without a reason, since it
-// is then read twice (docs/DECISIONS.md). The rows come back, where there is no reason.
-#[tactic(auto, using(crate::proofs::Reasons::judge_steps))]
-fn judge<'a>(table: &'a [u64], aux: &[u64], challenges: &[u64]) -> Result<Rows<'a>, Refusal>
-    ensures { Judged table.now aux.now challenges.now result }
-{
-    if !table::have_shapes(table, aux, challenges) {
-        return Err(Refusal::Shape);
+impl Rows<'_> {
+    // Yes: every word of the table is below p, and nothing is against the denominator of any row. One pass over the rows for both.
+    fn are_fine(&self) -> bool
+        requires { length self.now.table.now ≡ main_width * row_count self.now.table.now }
+        ensures { result ≡ true → (all_reduced self.now.table.now ≡ true) × (denominators_ok (summands_in self.now) (row_count self.now.table.now) ≡ true) }
+    {
+        // By number, as `Summands` gives a row's share: with the rows as chunks, each would be cut and read by number both.
+        (0..self.count()).all(|row| {
+            table::all_reduced(&self.table[MainRow::WIDTH * row..MainRow::WIDTH * (row + 1)])
+                && sums::denominator_ok(self, row)
+        })
     }
-    let rows = Rows::new(table, challenges);
-    if table::all_reduced(challenges) && are_rows_fine(&rows) {
-        return Ok(rows);
-    }
-    if !table::are_reduced(table, challenges) {
-        return Err(Refusal::Unreduced);
-    }
-    if !sums::denominators_ok(&rows) {
-        return Err(Refusal::Flat);
-    }
-    Ok(rows)
 }
 
 // Each row's aux words become the sum so far, and the answer is the last sum, zero for no rows. It refuses wrong shapes, a word p or more in
@@ -100,6 +102,6 @@ fn judge<'a>(table: &'a [u64], aux: &[u64], challenges: &[u64]) -> Result<Rows<'
 pub fn extend(table: &[u64], aux: &mut [u64], challenges: &[u64]) -> Result<XFieldElement, Refusal>
     ensures { Leaves (extend_all table.now aux.old challenges.now) (extended_answer result) aux.new }
 {
-    let rows = judge(table, aux, challenges)?;
+    let rows = Rows::judge(table, aux, challenges)?;
     Ok(sums::write_sums(&rows, aux))
 }

@@ -114,33 +114,33 @@ impl PendingRow {
             lookup_multiplicity: BFieldElement(self.multiplicity),
         }
     }
-}
 
-// Fills a section's rows from `row` to its end, the end row first, and answers the Result of the first of them: each Result is carried up from
-// the row below. The rows that are left, and so the bits of the operands, get fewer.
-#[tactic(auto, using(crate::proofs::PendingRows::left_at_least))]
-fn fill_section(table: &mut [u64], row: usize, pending: PendingRow) -> Option<u64>
-    requires pending_in_bounds { main_width * (row + rows_left pending) ≤ length table.old }
-    requires pending_bound { pending.bits + rows_left pending ≤ 33 }
-    ensures value { result ≡ top_result (section_of pending) }
-    ensures table_after { table.new ≡ sets table.old (main_width * row) (section_words (section_of pending)) }
-{
-    let words = ResultRow {
-        copy_flag: pending.copy_flag,
-        bits: pending.bits,
-        ci: pending.ci,
-        lhs: pending.lhs.value,
-        rhs: pending.rhs.value,
-    };
-    if fill_results::is_end(words.ci, words.lhs, words.rhs) {
-        let res = words.ending()?;
-        pending.row(res).put(table, row);
-        return Some(res);
+    // Fills a section's rows from `row`, which is this one, to its end, the end row first, and answers the Result of the first of them: each Result
+    // is carried up from the row below. The rows that are left, and so the bits of the operands, get fewer.
+    #[tactic(auto, using(crate::proofs::PendingRows::left_at_least))]
+    fn fill_section(self, table: &mut [u64], row: usize) -> Option<u64>
+        requires pending_in_bounds { main_width * (row + rows_left self) ≤ length table.old }
+        requires pending_bound { self.bits + rows_left self ≤ 33 }
+        ensures value { result ≡ top_result (section_of self) }
+        ensures table_after { table.new ≡ sets table.old (main_width * row) (section_words (section_of self)) }
+    {
+        let words = ResultRow {
+            copy_flag: self.copy_flag,
+            bits: self.bits,
+            ci: self.ci,
+            lhs: self.lhs.value,
+            rhs: self.rhs.value,
+        };
+        if fill_results::is_end(words.ci, words.lhs, words.rhs) {
+            let res = words.ending()?;
+            self.row(res).put(table, row);
+            return Some(res);
+        }
+        let below = self.next().fill_section(table, row + 1)?;
+        let res = words.carry(below)?;
+        self.row(res).put(table, row);
+        Some(res)
     }
-    let below = fill_section(table, row + 1, pending.next())?;
-    let res = words.carry(below)?;
-    pending.row(res).put(table, row);
-    Some(res)
 }
 
 // Fills the section of an entry, from `row` on.
@@ -159,5 +159,5 @@ pub fn fill_entry(table: &mut [u64], row: usize, e: U32TableEntry, multiplicity:
         rhs: Operand::new(e.right_operand),
         multiplicity,
     };
-    fill_section(table, row, first)
+    first.fill_section(table, row)
 }

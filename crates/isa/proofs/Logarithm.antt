@@ -1,6 +1,6 @@
 -- floor_log2 is the logarithm to base 2, rounded down, and height_of the bit length and one more. Both are known by the powers of 2 that n lies
 -- between; every other law follows from that.
-use mathlib.Core.Path.{◌≡◌, refl, ap}
+use mathlib.Core.Path.{◌≡◌, refl, sym, ap, ◌∙◌}
 use mathlib.Core.Bool.{Bool, true, false}
 use mathlib.Core.Logic.{◌≢◌, ⊎_elim}
 use Prim.Native.Nat.{ℕ, zero, suc, ◌+◌, ◌*◌, ◌/◌, ◌^◌, ◌≤◌, ◌<◌}
@@ -9,6 +9,8 @@ use native.Mathlib.Omega.{arith}
 use borrow.Author.Tests.{ltb-true, ltb-false, ne_eqb}
 use lib.Dec.{ltb}
 use lib.Pow.{pow_pos, pow_mono}
+use Rattle.std.specs.Prelude.{Option, None, Some, MatchOption, IfNone, IfSome}
+use Rattle.std.specs.Option.{unwrap_or}
 use Rattle.isa.specs.PlainFunctions.{halvings, floor_log2}
 use Rattle.isa.specs.Entries.{height_of}
 
@@ -57,6 +59,12 @@ pub floor_log2_zero : floor_log2 0 ≡ 0
 unfolding floor_log2
 floor_log2_zero = refl
 
+-- the logarithm as the library tells it, which for 0 is none
+pub floor_log2_told : (n : ℕ) (log : Option ℕ) → IfNone log (n ≡ 0) → IfSome log (λ k. 2 ^ k ≤ n) → IfSome log (λ k. n < 2 * 2 ^ k)
+    → unwrap_or log 0 ≡ floor_log2 n
+floor_log2_told n None none low high = sym (ap floor_log2 none ∙ floor_log2_zero)
+floor_log2_told n (Some k) none low high = sym (floor_log2_unique n k low (omega (arith, pow-suc 2 k, high)))
+
 pub floor_log2_one : floor_log2 1 ≡ 0
 unfolding floor_log2
 floor_log2_one = refl
@@ -87,6 +95,14 @@ height_zero = refl
 pub height_of_lem : (n : ℕ) → n ≢ 0 → height_of n ≡ 2 + floor_log2 n
 unfolding height_of
 height_of_lem n z = rw (ne_eqb n 0 z)
+
+-- made of the logarithm as the library tells it: 1 where it is none, else 2 and the logarithm
+module _ (h : ℕ) {Made : ℕ → Type 0} (two_more : (k : ℕ) → Made k → h ≡ 2 + k) where
+  pub height_told : (n : ℕ) (log : Option ℕ) → IfNone log (n ≡ 0) → IfSome log (λ k. 2 ^ k ≤ n) → IfSome log (λ k. n < 2 * 2 ^ k)
+      → MatchOption log (h ≡ 1) Made → h ≡ height_of n
+  height_told n None none low high made = made ∙ sym (ap height_of none ∙ height_zero)
+  height_told n (Some k) none low high made =
+      two_more k made ∙ ap (λ (j : ℕ). 2 + j) (floor_log2_told n (Some k) none low high) ∙ sym (height_of_lem n (λ e. omega (arith, pow_pos k, low)))
 
 pub height_half : (n : ℕ) → n ≢ 0 → height_of n ≡ suc (height_of (n / 2))
 height_half n z = go (ltb n 2) refl where

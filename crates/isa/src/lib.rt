@@ -173,16 +173,14 @@ impl U32TableEntry {
     }
 
     // The number of rows that the entry's section has.
+    #[tactic(auto, using(crate::proofs::Logarithm::height_told), unfolding(crate::specs::Entries::height))]
     pub fn table_height_contribution(self) -> u64
         ensures exact { result ≡ height self }
         ensures bound { result ≤ 65 }
     {
-        let dominant_operand = self.dominant_operand();
-        if dominant_operand == 0 {
-            1
-        } else {
-            2 + floor_log2(dominant_operand)
-        }
+        self.dominant_operand()
+            .checked_ilog2()
+            .map_or(1, |log| 2 + u64::from(log))
     }
 
     // The plain function of the instruction, which is the Result of the entry's first row; 0 for split, which has none, and for a word that is no
@@ -210,9 +208,10 @@ impl U32TableEntry {
 }
 
 // The logarithm to base 2 of n, rounded down; 0 for 0.
+#[tactic(auto, using(crate::proofs::Logarithm::floor_log2_told))]
 pub fn floor_log2(n: u64) -> u64
     ensures exact { result ≡ floor_log2 n }
     ensures bound { result ≤ 63 }
 {
-    if n == 0 { 0 } else { u64::from(n.ilog2()) }
+    u64::from(n.checked_ilog2().unwrap_or(0))
 }

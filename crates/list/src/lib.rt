@@ -3,7 +3,7 @@
 // The arrays are words and no arrays of structs: the C interface lends them so.
 #![tactic(auto)]
 
-ghost use Rattle.std.specs.Prelude.{◌≡◌, true, ℕ, ◌+◌, ◌*◌, ◌-◌, ◌/◌, ◌≤◌, ◌<◌, List, [], IfSome, OnOk, length, replicate};
+ghost use Rattle.std.specs.Prelude.{◌≡◌, true, ℕ, ◌+◌, ◌*◌, ◌-◌, ◌/◌, ◌≤◌, ◌<◌, List, [], IfSome, OnOk, length, take, replicate};
 ghost use Rattle.std.proofs.lemmas.List.Edits.{sets};
 ghost use Rattle.std.specs.Option.{unwrap_or};
 ghost use Rattle.words.specs.Limits.{max_places};
@@ -75,14 +75,7 @@ impl LentListMut<'_> {
     pub fn view(&self) -> LentList<'_>
         ensures { held_in result ≡ held_in_mut self.now }
     {
-        LentList {
-            list: LentCounts {
-                sizes: self.sizes,
-                keys: self.keys,
-                multiplicities: self.multiplicities,
-            },
-            holds: self.holds,
-        }
+        LentList::new(self.sizes, self.keys, self.multiplicities, self.holds)
     }
 }
 
@@ -256,6 +249,13 @@ impl LentCounts<'_> {
 impl UsedPlaces<'_> {
     ghost use Rattle.list.specs.Lent.{counts_in};
 
+    // The keys of the used places.
+    pub fn used_keys(&self) -> &[u64]
+        ensures { result.now ≡ take (entry_width * self.now.list.sizes.used) self.now.list.keys.now }
+    {
+        &self.list.keys[..U32TableEntry::WIDTH * self.list.sizes.used]
+    }
+
     // Reasons 2 to 5 entry by entry; where there is none, the height.
     pub fn judge_places(&self, stored: bool) -> Result<u64, Refusal>
         ensures { result ≡ judged_places stored (counts_in self.now.list) }
@@ -314,14 +314,35 @@ impl Copied {
     }
 }
 
-impl LentList<'_> {
+impl<'a> LentList<'a> {
+    ghost use Rattle.list.specs.Holds.{held_list};
     ghost use Rattle.list.specs.Lent.{copied_in, held_in};
+
+    // Of its parts.
+    pub fn new(
+        sizes: Sizes,
+        keys: &'a [u64],
+        multiplicities: &'a [u64],
+        holds: &'a [u64],
+    ) -> LentList<'a>
+        ensures { held_in result ≡ held_list sizes keys.now multiplicities.now holds.now }
+    {
+        LentList {
+            list: LentCounts {
+                sizes,
+                keys,
+                multiplicities,
+            },
+            holds,
+        }
+    }
 
     // Reason 1.
     #[tactic(auto, unfolding(crate::specs::Holds::held_shape))]
     pub fn held_shape(&self) -> Result<(), Refusal>
         ensures { result ≡ held_shape (held_in self.now) }
     {
+        // Two tests with one answer: joined by `||` they would drop the refusal that `list_shape` tells, and tell it anew.
         self.list.list_shape()?;
         if self.holds.len() == self.list.sizes.capacity {
             Ok(())

@@ -90,6 +90,7 @@ impl StoredList<'_> {
     }
 
     // Stores what the bytes hold in the first n places.
+    // By place, here and below: `chunks_exact_mut` was tried, and after such a loop a proof knows nothing of what was written.
     pub fn unpack(&self, keys: &mut [u64], multiplicities: &mut [u64])
         requires n_in_bounds { (entry_width * self.now.n ≤ length keys.old) × (self.now.n ≤ length multiplicities.old) }
         ensures keys_after { keys.new ≡ sets keys.old 0 (flat_map (λ i. entry_words (stored_entry self.now.bytes.now i)) (places self.now.n)) }
@@ -118,7 +119,6 @@ fn put_entry(out: &mut [u8], e: U32TableEntry)
 }
 
 // The bytes become those of a list's entries.
-// By place, here and below: `chunks_exact_mut` was tried, and after such a loop a proof knows nothing of what was written.
 fn put_entries(used: &UsedPlaces, out: &mut [u8])
     requires { length out.old ≡ key_width * used.now.list.sizes.used }
     ensures { out.new ≡ flat_map (λ i. key_bytes (entry_at (counts_in used.now.list) i)) (places used.now.list.sizes.used) }

@@ -2,7 +2,8 @@
 // multiplicities and its holds, one each a place.
 #![tactic(auto)]
 
-ghost use Rattle.std.specs.Prelude.{◌≡◌, ◌+◌, ◌*◌, ◌^◌, ◌≤◌, ◌<◌, [], ◌∷◌, length};
+ghost use Rattle.std.specs.Prelude.{◌≡◌, ◌+◌, ◌*◌, ◌^◌, ◌≤◌, ◌<◌, [], ◌∷◌, IfOk, length, get_or};
+ghost use Rattle.words.specs.Limits.{max_places};
 ghost use Rattle.words.specs.Outcomes.{Leaves, completed_answer};
 ghost use Rattle.isa.specs.Entries.{entry_width};
 ghost use Rattle.list.specs.Holds.{held_list};
@@ -14,7 +15,7 @@ ghost use Rattle.list_record.specs.Placing.{place_as, place_of, stored_at, Fits}
 
 use isa::U32TableEntry;
 pub use list::Sizes;
-use list::{LentCounts, LentList, LentListMut};
+use list::{LentList, LentListMut, UsedPlaces};
 pub use words::MAX_PLACES;
 use words::{MIN_PADDED_HEIGHT, Refusal};
 
@@ -65,11 +66,11 @@ pub fn plan(list: &LentList) -> Result<Heights, Refusal>
 
 // Where an admitted entry goes: to the first equal key, or as a new key; or 5 or 6.
 fn find_admitted(held: &LentList, entry: U32TableEntry) -> Result<Place, Refusal>
-    requires { (entry_width * held.now.list.sizes.used ≤ length held.now.list.keys.now) × (held.now.list.sizes.used ≤ length held.now.list.multiplicities.now) × (held.now.list.sizes.used ≤ length held.now.holds.now) }
+    requires { (held.now.list.sizes.used ≤ max_places) × (entry_width * held.now.list.sizes.used ≤ length held.now.list.keys.now) × (held.now.list.sizes.used ≤ length held.now.list.multiplicities.now) × (held.now.list.sizes.used ≤ length held.now.holds.now) }
     ensures { result ≡ place_as (place_reason (held_in held.now) entry) (held_in held.now) entry }
 {
     let list = held.list;
-    match list::find(&list.keys[..U32TableEntry::WIDTH * list.sizes.used], entry) {
+    match list::find(UsedPlaces { list }.used_keys(), entry) {
         Some(at) => {
             if list::one_more_is_full(list.multiplicities[at], held.holds[at]) {
                 Err(Refusal::CountFull)
@@ -164,7 +165,8 @@ pub fn hold_u32_table_entry(list: &mut LentListMut, entry: U32TableEntry) -> Res
 // Reasons 1 and 16 against ending a hold at a position.
 #[tactic(auto, unfolding(crate::specs::Holding::drop_reason, list::specs::Holds::hold_at))]
 fn judge_drop(held: &LentList, position: usize) -> Result<(), Refusal>
-    ensures { result ≡ drop_reason (held_in held.now) position }
+    ensures reason { result ≡ drop_reason (held_in held.now) position }
+    ensures room { IfOk result (λ _. (position < length (held_in held.now).list.multiplicities) × (position < length (held_in held.now).holds) × (0 < get_or (held_in held.now).holds position 0)) }
 {
     held.held_shape()?;
     if held.list.sizes.used <= position || held.holds[position] == 0 {
@@ -184,12 +186,7 @@ pub fn confirm_hold(
 ) -> Result<(), Refusal>
     ensures { Leaves (confirm_all (held_list sizes keys.now multiplicities.old holds.old) position) (completed_answer result) (held_list sizes keys.now multiplicities.new holds.new) }
 {
-    let list = LentCounts {
-        sizes,
-        keys,
-        multiplicities,
-    };
-    judge_drop(&LentList { list, holds }, position)?;
+    judge_drop(&LentList::new(sizes, keys, multiplicities, holds), position)?;
     if list::one_more_is_full(multiplicities[position], 0) {
         return Err(Refusal::CountFull);
     }
@@ -208,12 +205,7 @@ pub fn drop_hold(
 ) -> Result<(), Refusal>
     ensures { Leaves (drop_all (held_list sizes keys.now multiplicities.now holds.old) position) (completed_answer result) (held_list sizes keys.now multiplicities.now holds.new) }
 {
-    let list = LentCounts {
-        sizes,
-        keys,
-        multiplicities,
-    };
-    judge_drop(&LentList { list, holds }, position)?;
+    judge_drop(&LentList::new(sizes, keys, multiplicities, holds), position)?;
     holds[position] -= 1;
     Ok(())
 }

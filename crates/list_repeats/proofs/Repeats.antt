@@ -1,15 +1,20 @@
 -- Equal keys: `repeats` finds two of them exactly where there are two, at an earlier and at a later place.
-use mathlib.Core.Path.{◌≡◌, refl, sym, ◌∙◌}
+use mathlib.Core.Path.{◌≡◌, refl, sym, ap, ◌∙◌}
 use mathlib.Core.Bool.{Bool, true, false, or-true}
-use mathlib.Core.List.{map}
+use mathlib.Core.List.{List, map}
 use mathlib.Core.Logic.{⊎_elim}
-use Prim.Native.Nat.{ℕ, zero, suc, ◌+◌, ◌≤◌, ◌<◌}
+use Prim.Native.Nat.{ℕ, zero, suc, ◌+◌, ◌*◌, ◌/◌, ◌≤◌, ◌<◌}
 use native.Mathlib.Nat.{eq-or-lt_of_le}
 use native.Mathlib.Omega.{arith}
+use lib.ListN.{length, take}
 use Rattle.std.proofs.lemmas.Bool.{or_from}
 use Rattle.words.specs.Places.{places_from, places}
 use Rattle.isa.specs.declared.U32TableEntry.{U32TableEntry}
+use Rattle.isa.specs.Entries.{entry_width}
+use Rattle.list.specs.declared.Sizes.{Sizes}
+use Rattle.list.specs.Lists.{U32List, u32_list, used, entry_at}
 use Rattle.list.specs.Keys.{same_key}
+use Rattle.list.proofs.Places.{used_entries}
 use Rattle.list_repeats.specs.Repeats.{occurs, repeats}
 
 module _ (f : ℕ → U32TableEntry) where
@@ -66,3 +71,8 @@ module _ (f : ℕ → U32TableEntry) where
     go : (t : Bool) → same_key (f i) (f j) ≡ t → same_key (f i) (f j) ≡ false
     go false h = h
     go true h = absurd (let z : ◌≡◌ {A = Bool} true false = sym (repeat_at n i j p q h) ∙ e in let y : ◌≡◌ {A = ℕ} 0 1 = cc in omega arith)
+
+-- what is told of the keys of the used places alone is told of the list
+pub used_repeats : (l : U32List) → entry_width * used l ≤ length l.keys → {ks : List ℕ} → ks ≡ take (entry_width * used l) l.keys → {t : Bool}
+    → ((s : Sizes) (ms : List ℕ) → t ≡ repeats (map (entry_at (u32_list s ks ms)) (places (length ks / entry_width)))) → t ≡ repeats (map (entry_at l) (places (used l)))
+used_repeats l b part told = told l.sizes l.multiplicities ∙ ap repeats (used_entries l b part l.sizes l.multiplicities)

@@ -7,7 +7,7 @@ ghost use Rattle.isa.specs.Entries.{entry};
 ghost use Rattle.isa.specs.Opcodes.{opcode_number};
 ghost use Rattle.list_replay.specs.declared.StepEntries.TheVariants.{One};
 ghost use Rattle.list.specs.Lent.{held_in_mut, SameArrays};
-ghost use Rattle.list_replay.specs.Steps.{Names, step_width, step_at, split_step, div_mod_step, merkle_step, step_entries};
+ghost use Rattle.list_replay.specs.Steps.{Names, step_width, split_step, div_mod_step, merkle_step, step_entries};
 ghost use Rattle.list_replay.specs.Replay.{record_together, step_all, replay_all, replayed_answer};
 ghost use Rattle.list_replay.specs.Together.{second_place};
 
@@ -83,20 +83,6 @@ impl From<Refusal> for Stopped {
     }
 }
 
-// The three words of step i.
-#[tactic(auto, unfolding(crate::specs::Steps::step_at))]
-fn step_at(trace: &[u64], i: usize) -> Step
-    requires { step_width * i + 2 < length trace.now }
-    ensures { result ≡ step_at trace.now i }
-{
-    let [opcode, first, second]: [u64; STEP_WIDTH] = words::record_at(trace, i);
-    Step {
-        opcode,
-        first,
-        second,
-    }
-}
-
 // The step records one entry.
 fn one(opcode: Opcode, first: u64, second: u64) -> Result<StepEntries, Refusal>
     ensures { result ≡ Ok (One (entry (opcode_number opcode) first second)) }
@@ -153,20 +139,38 @@ fn plain_step(opcode: Opcode, first: u64, second: u64) -> Result<StepEntries, Re
     }
 }
 
-// What a step records. Whether the entry of one of the six is admitted, recording decides.
-pub fn step_entries(step: Step) -> Result<StepEntries, Refusal>
-    ensures { result ≡ step_entries step }
-{
-    let Step {
-        opcode,
-        first,
-        second,
-    } = step;
-    match Instruction::try_from(opcode)? {
-        Instruction::Plain(plain) => plain_step(plain, first, second),
-        Instruction::Xor => one(Opcode::And, first, second),
-        Instruction::DivMod => div_mod_step(first, second),
-        Instruction::MerkleStep | Instruction::MerkleStepMem => merkle_step(first),
+impl Step {
+    ghost use Rattle.list_replay.specs.Steps.{step_at, step_entries};
+
+    // The three words of step i.
+    #[tactic(auto, unfolding(crate::specs::Steps::step_at))]
+    fn at(trace: &[u64], i: usize) -> Step
+        requires { step_width * i + 2 < length trace.now }
+        ensures { result ≡ step_at trace.now i }
+    {
+        let [opcode, first, second]: [u64; STEP_WIDTH] = words::record_at(trace, i);
+        Step {
+            opcode,
+            first,
+            second,
+        }
+    }
+
+    // What a step records. Whether the entry of one of the six is admitted, recording decides.
+    pub fn entries(self) -> Result<StepEntries, Refusal>
+        ensures { result ≡ step_entries self }
+    {
+        let Step {
+            opcode,
+            first,
+            second,
+        } = self;
+        match Instruction::try_from(opcode)? {
+            Instruction::Plain(plain) => plain_step(plain, first, second),
+            Instruction::Xor => one(Opcode::And, first, second),
+            Instruction::DivMod => div_mod_step(first, second),
+            Instruction::MerkleStep | Instruction::MerkleStepMem => merkle_step(first),
+        }
     }
 }
 
@@ -201,7 +205,7 @@ fn replay_step(list: &mut LentListMut, step: Step) -> Result<(), Refusal>
     ensures outcome { Leaves (step_all (held_in_mut list.old) step) (completed_answer result) (held_in_mut list.new) }
     ensures same_arrays { SameArrays list.old list.new }
 {
-    match step_entries(step)? {
+    match step.entries()? {
         StepEntries::One(entry) => {
             list_record::record_u32_table_entry(list, entry)?;
             Ok(())
@@ -215,13 +219,14 @@ pub fn replay(list: &mut LentListMut, trace: &[u64]) -> Result<usize, Stopped>
     ensures outcome { Leaves (replay_all (held_in_mut list.old) trace.now) (replayed_answer result) (held_in_mut list.new) }
     ensures same_arrays { SameArrays list.old list.new }
 {
+    // Two tests with one answer: joined by `||` they would drop the refusal that `held_shape` tells, and tell it anew.
     list.view().held_shape()?;
     if trace.len() % STEP_WIDTH != 0 {
         return Err(Stopped::from(Refusal::Shape));
     }
     let steps = trace.len() / STEP_WIDTH;
     for done in 0..steps {
-        replay_step(list, step_at(trace, done)).map_err(|reason| Stopped { reason, done })?;
+        replay_step(list, Step::at(trace, done)).map_err(|reason| Stopped { reason, done })?;
     }
     Ok(steps)
 }

@@ -22,6 +22,7 @@ fn length_with(width: usize, n: usize) -> usize
 }
 
 // The bytes with their number of entries. Reason 10: they are not as many as that number says, in the new form or in the old, or it is too large.
+// The first test is apart: with the others it would read the count three times.
 // Which form they have is not handed on: a field for it would ask more of who makes a `StoredList`.
 fn stored_list(bytes: &[u8]) -> Result<StoredList<'_>, Refusal>
     ensures { TakenUnless (torn bytes.now) bytes.now result }
@@ -30,16 +31,13 @@ fn stored_list(bytes: &[u8]) -> Result<StoredList<'_>, Refusal>
         return Err(Refusal::Torn);
     }
     let n = list_bytes::stored_n(bytes);
-    if MAX_PLACES < n {
+    if MAX_PLACES < n
+        || (bytes.len() != length_with(list_bytes::OLD_MULTIPLICITY_WIDTH, n)
+            && bytes.len() != length_with(list_bytes::MULTIPLICITY_WIDTH, n))
+    {
         return Err(Refusal::Torn);
     }
-    if bytes.len() == length_with(list_bytes::OLD_MULTIPLICITY_WIDTH, n) {
-        return Ok(StoredList { bytes, n });
-    }
-    if bytes.len() == length_with(list_bytes::MULTIPLICITY_WIDTH, n) {
-        return Ok(StoredList { bytes, n });
-    }
-    Err(Refusal::Torn)
+    Ok(StoredList { bytes, n })
 }
 
 // The copy becomes one of the entries that the bytes hold. It is filled where it stands.
@@ -58,7 +56,7 @@ fn judge_content(stored: &StoredList) -> Result<(), Refusal>
     copy_entries(stored, &mut copied);
     let content = copied.lent();
     let height = content.judge_places(true)?;
-    if list_repeats::has_repeats(content.list.keys, content.list.sizes.used) {
+    if list_repeats::has_repeats(content.used_keys()) {
         return Err(Refusal::Repeat);
     }
     if list_bytes::stored_height(stored.bytes) == height {
@@ -74,10 +72,7 @@ fn judge_reading<'a>(bytes: &'a [u8], held: &LentList) -> Result<StoredList<'a>,
 {
     held.held_shape()?;
     let stored = stored_list(bytes)?;
-    if held.list.sizes.capacity < stored.n {
-        return Err(Refusal::ListFull);
-    }
-    if 0 < held.list.sizes.used {
+    if held.list.sizes.capacity < stored.n || 0 < held.list.sizes.used {
         return Err(Refusal::ListFull);
     }
     judge_content(&stored)?;
@@ -102,7 +97,7 @@ fn store(places: &UsedPlaces, height: u64, out: &mut [u8]) -> Result<usize, Refu
     requires { height ≡ list_height (counts_in places.now.list) }
     ensures { Leaves (stored_as (storing_reason (counts_in places.now.list) out.old) (counts_in places.now.list) out.old) (written_answer result) out.new }
 {
-    if list_repeats::has_repeats(places.list.keys, places.list.sizes.used) {
+    if list_repeats::has_repeats(places.used_keys()) {
         return Err(Refusal::Repeat);
     }
     let length = length_with(list_bytes::MULTIPLICITY_WIDTH, places.list.sizes.used);

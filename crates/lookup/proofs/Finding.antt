@@ -1,7 +1,7 @@
--- What a search for a value finds: find_runs passes the first runs, none of which holds it, and find_at ends at the first place that does.
--- Assumes nothing.
+-- What a search for a value finds: find_runs passes the first runs, none of which holds it, and find_at ends at the first place that does;
+-- find_part is about a search of the first keys. Assumes nothing.
 use Prim.Native.Nat.{ℕ, zero, suc, ◌+◌, ◌*◌, ◌-◌, ◌≤◌, ◌<◌}
-use mathlib.Core.Path.{◌≡◌, sym, ap, ◌∙◌, subst}
+use mathlib.Core.Path.{◌≡◌, refl, sym, ap, ◌∙◌, subst}
 use mathlib.Core.Bool.{false}
 use mathlib.Core.Logic.{◌≢◌, ⊎_elim}
 use mathlib.Core.List.{List, [], ◌∷◌}
@@ -60,26 +60,36 @@ occurs_not v (w ∷ ws) e (suc j) h = occurs_not v ws (or_parts (eqb w v) (occur
 abbrev pub run_of : (keys : List ℕ) (run : ℕ) → List ℕ
 run_of keys run = take 256 (drop (run * 256) keys)
 
-module _ (keys : List ℕ) (v n : ℕ) (within : n ≤ length keys) where
-  not_in_run : (run j : ℕ) → run * 256 + 256 ≤ n → occurs v (run_of (take n keys) run) ≡ false → j < 256 → get_or keys (256 * run + j) 0 ≢ v
+module _ (keys : List ℕ) (v : ℕ) where
+  not_in_run : (run j : ℕ) → run * 256 + 256 ≤ length keys → occurs v (run_of keys run) ≡ false → j < 256 → get_or keys (256 * run + j) 0 ≢ v
   not_in_run run j h e b =
       let place : run * 256 + j ≡ 256 * run + j = omega arith in
       subst (λ (w : ℕ). w ≢ v)
-      (get_or-take 256 (drop (run * 256) (take n keys)) j 0 (omega arith)
-      ∙ get_or-drop (run * 256) (take n keys) j 0
-      ∙ get_or-take n keys (run * 256 + j) 0 (omega arith)
+      (get_or-take 256 (drop (run * 256) keys) j 0 (omega arith)
+      ∙ get_or-drop (run * 256) keys j 0
       ∙ ap (λ (i : ℕ). get_or keys i 0) place)
       (occurs_not v _ e j
-      (let all = length-take-le n keys within in
-      let d = length-drop (run * 256) (take n keys) in
-      let t = length-take-le 256 (drop (run * 256) (take n keys)) (omega arith) in
+      (let d = length-drop (run * 256) keys in
+      let t = length-take-le 256 (drop (run * 256) keys) (omega arith) in
       omega arith))
 
   -- the first m runs, none of which holds the value
-  pub find_runs : (m : ℕ) → 256 * m ≤ n → ((k : ℕ) → k < m → occurs v (run_of (take n keys) k) ≡ false)
-      → find_from keys v 0 n ≡ find_from keys v (256 * m) (n - 256 * m)
-  find_runs zero h none = ap (find_from keys v 0) (sym (sub-zero n))
+  pub find_runs : (m : ℕ) → 256 * m ≤ length keys → ((k : ℕ) → k < m → occurs v (run_of keys k) ≡ false)
+      → find_from keys v 0 (length keys) ≡ find_from keys v (256 * m) (length keys - 256 * m)
+  find_runs zero h none = ap (find_from keys v 0) (sym (sub-zero (length keys)))
   find_runs (suc m) h none =
       find_runs m (omega arith) (λ k b. none k (omega arith))
-      ∙ find_misses keys v 256 (256 * m) n (omega arith) (λ j b. not_in_run m j (omega arith) (none m (omega arith)) b)
-      ∙ ap (λ (j : ℕ). find_from keys v j (n - j)) (omega arith)
+      ∙ find_misses keys v 256 (256 * m) (length keys) (omega arith) (λ j b. not_in_run m j (omega arith) (none m (omega arith)) b)
+      ∙ ap (λ (j : ℕ). find_from keys v j (length keys - j)) (omega arith)
+
+-- ---- a part of the keys
+
+-- a search that ends within the first n keys is one of these
+find_in_part : (keys : List ℕ) (v n i m : ℕ) → i + m ≤ n → find_from (take n keys) v i m ≡ find_from keys v i m
+unfolding find_from
+find_in_part keys v n i zero h = refl
+find_in_part keys v n i (suc m) h = rw (get_or-take n keys i 0 (omega arith), find_in_part keys v n (suc i) m (omega arith))
+
+-- a search of the first n keys is one of these to its end
+pub find_part : (keys : List ℕ) (v n : ℕ) → n ≤ length keys → find_from (take n keys) v 0 (length (take n keys)) ≡ find_from keys v 0 n
+find_part keys v n h = rw (length-take-le n keys h) (find_in_part keys v n 0 n (omega arith))

@@ -110,17 +110,16 @@ fn holds(keys: &[u16], value: u16) -> bool
         .fold(false, |found, key| found | (*key == value))
 }
 
-// The first of the first n places that holds the value: 256 at a time, up to a run that holds it, or to the last run; from there one by one.
-// `position` over all of them takes nine times as long.
-fn find_value(keys: &[u16], n: usize, value: u16) -> Option<usize>
-    requires { n ≤ length keys.now }
-    ensures { MatchOption result (find_from keys.now value 0 n ≡ n) (λ at. (at < n) × (at ≡ find_from keys.now value 0 n)) }
+// The first place that holds the value: 256 at a time, up to a run that holds it, or to the last run; from there one by one. `position` over all of
+// them takes nine times as long.
+fn find_value(keys: &[u16], value: u16) -> Option<usize>
+    ensures { MatchOption result (find_from keys.now value 0 (length keys.now) ≡ length keys.now) (λ at. (at < length keys.now) × (at ≡ find_from keys.now value 0 (length keys.now))) }
 {
-    let passed = keys[..n]
+    let passed = keys
         .chunks_exact(256)
         .position(|run| holds(run, value))
-        .unwrap_or(n / 256);
-    (256 * passed..n).find(|place| keys[*place] == value)
+        .unwrap_or(keys.len() / 256);
+    (256 * passed..keys.len()).find(|place| keys[*place] == value)
 }
 
 // Whether a multiplicity would be raised past the limit. A sum that no word holds is past it too.
@@ -161,12 +160,13 @@ impl LentLookupsMut<'_> {
     fn find_limb(&self, limb: u16) -> Result<Option<usize>, Refusal>
         ensures { result ≡ place_of (lookups_in self.now) limb }
     {
+        // Two tests with one answer: joined by `||` they would drop the refusal that `judge_shape` tells, and tell it anew.
         self.cascade().judge_shape()?;
         if self.byte_multiplicities.len() != BYTE_ROWS {
             return Err(Refusal::Shape);
         }
         let used = self.sizes.used;
-        if let Some(at) = find_value(self.keys, used, limb) {
+        if let Some(at) = find_value(&self.keys[..used], limb) {
             if would_pass_limit(self.multiplicities[at], 1) {
                 return Err(Refusal::CountFull);
             }

@@ -162,10 +162,7 @@ pub fn byte_sum(
 ) -> Result<XFieldElement, Refusal>
     ensures { Leaves (byte_sum_all byte_multiplicities.now challenges.now aux.old) (extended_answer result) aux.new }
 {
-    if byte_multiplicities.len() != BYTE_ROWS {
-        return Err(Refusal::Shape);
-    }
-    if !has_sum_shape(BYTE_ROWS, challenges, aux) {
+    if byte_multiplicities.len() != BYTE_ROWS || !has_sum_shape(BYTE_ROWS, challenges, aux) {
         return Err(Refusal::Shape);
     }
     let bytes = Bytes {
@@ -184,6 +181,7 @@ pub fn cascade_sum(
 ) -> Result<XFieldElement, Refusal>
     ensures { Leaves (cascade_sum_all (cascade_in cascade.now) challenges.now aux.old) (extended_answer result) aux.new }
 {
+    // Two tests with one answer: joined by `||` they would drop the refusal that `judge_shape` tells, and tell it anew.
     cascade.judge_shape()?;
     if !has_sum_shape(cascade.sizes.capacity, challenges, aux) {
         return Err(Refusal::Shape);

@@ -25,6 +25,73 @@ pub struct Step {
     pub place: Place,
 }
 
+// A digit, on this line, after those that make a number: the line, where the number is then past 64 bits.
+fn digit_step(line: u64, before: u64, digit: u64) -> Result<Step, u64>
+    ensures { result ≡ digit_step line before digit }
+{
+    let tens = before.checked_mul(10).ok_or(line)?;
+    let value = tens.checked_add(digit).ok_or(line)?;
+    Ok(Step {
+        number: None,
+        place: Place {
+            line,
+            ended: false,
+            number: Some(value),
+        },
+    })
+}
+
+impl Place {
+    // Before the first byte.
+    pub fn start() -> Place
+        ensures { result ≡ start_place }
+    {
+        Place {
+            line: 1,
+            ended: false,
+            number: None,
+        }
+    }
+
+    // The line of the next byte. Lines past the largest word are not counted.
+    fn line_of_next(self) -> u64
+        ensures { result ≡ line_of_next self }
+    {
+        if self.ended {
+            self.line.saturating_add(1)
+        } else {
+            self.line
+        }
+    }
+
+    // A space or a newline, on this line, ends the number before it.
+    fn gap_step(self, line: u64, newline: bool) -> Step
+        ensures { result ≡ gap_step self line newline }
+    {
+        Step {
+            number: self.number,
+            place: Place {
+                line,
+                ended: newline,
+                number: None,
+            },
+        }
+    }
+
+    // A text that was read up to this place, and one byte more: the line, where the byte is no part of a text of numbers.
+    pub fn step(self, byte: u8) -> Result<Step, u64>
+        ensures { result ≡ step_of self byte }
+    {
+        let line = self.line_of_next();
+        match byte {
+            b' ' => Ok(self.gap_step(line, false)),
+            b'\n' => Ok(self.gap_step(line, true)),
+            b'0'..=b'9' => digit_step(line, self.number.unwrap_or(0), (byte - b'0') as u64),
+            _ => Err(line),
+        }
+    }
+}
+
 // What speaks against a text first.
 #[derive(Clone, Copy)]
 pub enum Fault {
@@ -47,7 +114,7 @@ impl<S> Reader<S> {
         ensures { result ≡ start_reader sheet }
     {
         Reader {
-            place: start(),
+            place: Place::start(),
             sheet,
         }
     }
@@ -91,96 +158,28 @@ pub trait Answered: Sheet {
         ensures { Put out.old 0 (answer stage words.old) out.new result };
 }
 
-// Before the first byte.
-pub fn start() -> Place
-    ensures { result ≡ start_place }
-{
-    Place {
-        line: 1,
-        ended: false,
-        number: None,
-    }
-}
-
-// The line of the next byte. Lines past the largest word are not counted.
-fn line_of_next(place: Place) -> u64
-    ensures { result ≡ line_of_next place }
-{
-    if place.ended {
-        place.line.saturating_add(1)
-    } else {
-        place.line
-    }
-}
-
-// A space or a newline, on this line, ends the number before it.
-fn gap_step(place: Place, line: u64, newline: bool) -> Step
-    ensures { result ≡ gap_step place line newline }
-{
-    Step {
-        number: place.number,
-        place: Place {
-            line,
-            ended: newline,
-            number: None,
-        },
-    }
-}
-
-// A digit, on this line, after those that make a number: the line, where the number is then past 64 bits.
-fn digit_step(line: u64, before: u64, digit: u64) -> Result<Step, u64>
-    ensures { result ≡ digit_step line before digit }
-{
-    let tens = before.checked_mul(10).ok_or(line)?;
-    let value = tens.checked_add(digit).ok_or(line)?;
-    Ok(Step {
-        number: None,
-        place: Place {
-            line,
-            ended: false,
-            number: Some(value),
-        },
-    })
-}
-
-// A text that was read up to this place, and one byte more: the line, where the byte is no part of a text of numbers.
-pub fn next(place: Place, byte: u8) -> Result<Step, u64>
-    ensures { result ≡ step_of place byte }
-{
-    let line = line_of_next(place);
-    match byte {
-        b' ' => Ok(gap_step(place, line, false)),
-        b'\n' => Ok(gap_step(place, line, true)),
-        b'0'..=b'9' => digit_step(line, place.number.unwrap_or(0), (byte - b'0') as u64),
-        _ => Err(line),
-    }
-}
-
 // ---- a whole text
-// The number that a byte or the text's end ended, if it did, goes to its place; the text is read on from here.
-fn take_ended<S: Sheet>(
-    sheet: S,
-    number: Option<u64>,
-    place: Place,
-    words: &mut [u64],
-) -> Result<Reader<S>, Fault>
-    requires { (S.room ≤ length words.old) × S.Fits sheet }
-    ensures { IsFed S.Fits (take_ended S.takes place number sheet words.old) result words.new }
-{
-    let sheet = match number {
-        None => sheet,
-        Some(value) => sheet.take(place.line, value, words)?,
-    };
-    Ok(Reader { place, sheet })
-}
+impl<S: Sheet> Reader<S> {
+    // The number that a byte or the text's end ended, if it did, goes to its place; the text is read on from here.
+    fn take_ended(mut self, number: Option<u64>, words: &mut [u64]) -> Result<Reader<S>, Fault>
+        requires { (S.room ≤ length words.old) × S.Fits self.sheet }
+        ensures { IsFed S.Fits (take_ended S.takes self.place number self.sheet words.old) result words.new }
+    {
+        if let Some(value) = number {
+            self.sheet = self.sheet.take(self.place.line, value, words)?;
+        }
+        Ok(self)
+    }
 
-// A byte more.
-fn read_byte<S: Sheet>(reader: Reader<S>, byte: u8, words: &mut [u64]) -> Result<Reader<S>, Fault>
-    requires { (S.room ≤ length words.old) × S.Fits reader.sheet }
-    ensures { IsFed S.Fits (feed_byte S.takes (Ok reader) byte words.old) result words.new }
-{
-    let step = next(reader.place, byte).map_err(Fault::Malformed)?;
-    take_ended(reader.sheet, step.number, step.place, words)
+    // A byte more.
+    fn read_byte(mut self, byte: u8, words: &mut [u64]) -> Result<Reader<S>, Fault>
+        requires { (S.room ≤ length words.old) × S.Fits self.sheet }
+        ensures { IsFed S.Fits (feed_byte S.takes (Ok self) byte words.old) result words.new }
+    {
+        let step = self.place.step(byte).map_err(Fault::Malformed)?;
+        self.place = step.place;
+        self.take_ended(step.number, words)
+    }
 }
 
 // Reads a part more of a text that was read so far: its numbers are put into the lent words, each at its place. After a fault nothing is read.
@@ -195,7 +194,7 @@ pub fn feed<S: Sheet>(
 {
     let mut reached = stage?;
     for byte in part {
-        reached = read_byte(reached, *byte, words)?;
+        reached = reached.read_byte(*byte, words)?;
     }
     Ok(reached)
 }
@@ -209,5 +208,5 @@ pub fn end_number<S: Sheet>(
     ensures { IsFed S.Fits (end_number S.takes stage words.old) result words.new }
 {
     let reader = stage?;
-    take_ended(reader.sheet, reader.place.number, reader.place, words)
+    reader.take_ended(reader.place.number, words)
 }

@@ -1,6 +1,6 @@
 // C functions onto the insides of the library, for bench/ and for the comparison with the Rust in oracle/compare: the value of every
-// constraint on a pair of rows, and element operations by the array. Each answers 0, or 1 where a lent array has not the length that it
-// asks for; nothing is written then. That they take arrays of words and answer numbers is the C interface.
+// constraint on a pair of rows, and element operations by the array. Each of these answers 0, or 1 where a lent array has not the length that it
+// asks for; nothing is written then. `probe_chain` takes numbers alone, and answers a product. That they take words and answer numbers is the C interface.
 #![tactic(auto)]
 
 ghost use Rattle.std.specs.Prelude.{◌≡◌, map, ◌+◌, ◌*◌, ◌≤◌, length};

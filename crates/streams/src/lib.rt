@@ -14,6 +14,7 @@ use std::io::{Cursor, Error, ErrorKind, Read, Write};
 pub const MOST_CALLS: u64 = 1152921504606846976;
 
 // The three streams of a program, which its `main` alone has.
+// Each `main` makes it: a function that did would take the whole host, which no function below a `main` takes.
 #[derive(Drop)]
 pub struct Streams<R, W, E> {
     pub input: R,

@@ -236,7 +236,7 @@ impl Challenges {
         self.u32_indeterminate - compressed_row
     }
 
-    // The denominator of a row. Inlined, since out of line `check` and `extend` would store each row before they call it: 4 and 2 percent more.
+    // The denominator of a row. Inlined: out of line, `check` and `extend` would store each row before they call it.
     #[inline(always)]
     #[tactic(auto, unfolding(crate::specs::Layouts::row_of))]
     pub fn row_denominator(self, row: MainRow) -> XFieldElement

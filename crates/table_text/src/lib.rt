@@ -2,8 +2,8 @@
 // rows, and ten words a row.
 #![tactic(auto)]
 
-ghost use Rattle.std.specs.Prelude.{◌*◌, ◌≤◌, ◌≡◌, length, replicate, IfOk, Ok};
-ghost use Rattle.table_text.specs.TableText.{max_words, Fits, Within, start_stage, takes, taken_of};
+ghost use Rattle.std.specs.Prelude.{◌*◌, ◌≤◌, ◌≡◌, length, replicate, take, drop, IfOk, Ok};
+ghost use Rattle.table_text.specs.TableText.{rows_at, head_numbers, max_words, Fits, Within, start_stage, takes, taken_of};
 ghost use Rattle.table_text.specs.Answers.{max_answer, verdict_due, verdict_text, taken_text, fault_line, answer_text};
 ghost use Rattle.table_text.specs.TableText.{most_rows};
 ghost use Rattle.text.specs.Put.{Put, HasRoom, Adds};
@@ -15,10 +15,10 @@ use table::{AuxRow, Challenges, MainRow};
 use text::Text;
 
 // The place of the number of rows among the numbers.
-pub const ROWS_AT: usize = Challenges::WIDTH;
+const ROWS_AT: usize = Challenges::WIDTH;
 
 // Numbers before those of the rows.
-pub const HEAD: usize = ROWS_AT + 1;
+const HEAD: usize = ROWS_AT + 1;
 
 // More rows are not taken.
 pub const MAX_ROWS: u64 = 16384;
@@ -81,6 +81,7 @@ pub fn start() -> Reader<TableSheet>
 }
 
 // Room for the numbers of the longest text: all 0.
+// No `[0; N]` in a `main`: a room of ones (edit `room_of_ones`, in code and clause of four words) is refused, and in a `main`, which promises nothing, it was not.
 pub fn room() -> [u64; MAX_WORDS]
     ensures { result ≡ replicate max_words 0 }
 {
@@ -143,26 +144,6 @@ pub fn verdict_text(text: &mut Text, challenges: &[u64], table: &[u64], aux: &mu
     put_verdict(text, judged(challenges, table, aux))
 }
 
-// Words lent for the numbers of a text and for the sums of its rows.
-#[derive(Drop)]
-pub struct Lent<'a> {
-    pub words: &'a mut [u64],
-    pub aux: &'a mut [u64],
-    pub ghost room: { (max_words ≤ length words.now) × (3 * most_rows ≤ length aux.now) },
-}
-
-// The answer for a text that has a table of so many rows.
-fn put_table(text: &mut Text, lent: &mut Lent, rows: usize)
-    requires { HasRoom text.old max_answer × (rows ≤ most_rows) }
-    ensures { Adds text.old (taken_text (Ok rows) lent.old.words.now lent.old.aux.now) text.new }
-{
-    let to = HEAD + MainRow::WIDTH * rows;
-    let sums = AuxRow::WIDTH * rows;
-    let words = &*lent.words;
-    let aux = &mut *lent.aux;
-    verdict_text(text, &words[..ROWS_AT], &words[HEAD..to], &mut aux[..sums])
-}
-
 // Puts the line of what speaks against a text.
 pub fn put_fault(text: &mut Text, fault: Fault)
     requires { HasRoom text.old max_answer }
@@ -174,15 +155,51 @@ pub fn put_fault(text: &mut Text, fault: Fault)
     }
 }
 
-// The answer for a text that ended here.
-fn put_ended(text: &mut Text, stage: Result<Reader<TableSheet>, Fault>, lent: &mut Lent)
-    requires { HasRoom text.old max_answer × Within stage }
-    ensures { Adds text.old (answer_text stage lent.old.words.now lent.old.aux.now) text.new }
+// Words lent for the numbers of a text and for the sums of its rows.
+#[derive(Drop)]
+pub struct Lent<'a> {
+    pub words: &'a mut [u64],
+    pub aux: &'a mut [u64],
+    pub ghost room: { (max_words ≤ length words.now) × (3 * most_rows ≤ length aux.now) },
+}
+
+// The challenges and the table of a text that has so many rows, and words for the sums of its rows.
+// No method of `Lent`: tried with `&mut self`, and the borrow checker does not cover it; with `self` it covers no function that hands its `Lent` on to it.
+pub fn parts<'a>(
+    words: &'a [u64],
+    aux: &'a mut [u64],
+    rows: usize,
+) -> (&'a [u64], &'a [u64], &'a mut [u64])
+    requires { (max_words ≤ length words.now) × (3 * most_rows ≤ length aux.old) × (rows ≤ most_rows) }
+    ensures challenges { result.0.now ≡ take rows_at words.now }
+    ensures table { result.1.now ≡ take (10 * rows) (drop head_numbers words.now) }
+    ensures sums { result.2.now ≡ take (3 * rows) aux.old }
 {
-    let ended = numbers::end_number(stage, lent.words);
-    match judge_end(ended) {
-        Err(fault) => put_fault(text, fault),
-        Ok(rows) => put_table(text, lent, rows),
+    let to = HEAD + MainRow::WIDTH * rows;
+    let sums = AuxRow::WIDTH * rows;
+    (&words[..ROWS_AT], &words[HEAD..to], &mut aux[..sums])
+}
+
+impl Lent<'_> {
+    // The answer for a text that has a table of so many rows.
+    fn put_table(&mut self, text: &mut Text, rows: usize)
+        requires { HasRoom text.old max_answer × (rows ≤ most_rows) }
+        ensures { Adds text.old (taken_text (Ok rows) self.old.words.now self.old.aux.now) text.new }
+    {
+        let (challenges, table, aux) = parts(self.words, self.aux, rows);
+        verdict_text(text, challenges, table, aux)
+    }
+
+    // The answer for a text that ended here.
+    fn put_ended(&mut self, text: &mut Text, stage: Result<Reader<TableSheet>, Fault>)
+        requires { HasRoom text.old max_answer × Within stage }
+        ensures { Adds text.old (answer_text stage self.old.words.now self.old.aux.now) text.new }
+    {
+        let ended = numbers::end_number(stage, self.words);
+        match judge_end(ended) {
+            Err(fault) => put_fault(text, fault),
+            Ok(rows) => self.put_table(text, rows),
+        }
     }
 }
 
@@ -207,7 +224,7 @@ impl Answered for TableSheet {
             words,
             aux: &mut aux,
         };
-        put_ended(&mut text, stage, &mut lent);
+        lent.put_ended(&mut text, stage);
         text.len()
     }
 }

@@ -117,7 +117,7 @@ impl<'a> Text<'a> {
         ensures { Adds self.old (sum_line (sum.0.0 ∷ sum.1.0 ∷ sum.2.0 ∷ [])) self.new }
     {
         self.put_str("sum");
-        self.put_rest(&[sum.0.0, sum.1.0, sum.2.0]);
+        self.put_rest(&sum.words());
     }
 
     // Puts the line of a check that found every constraint zero.
@@ -134,8 +134,9 @@ impl<'a> Text<'a> {
         requires { HasRoom self.old (length (verdict_line (group ∷ row ∷ index ∷ value.0.0 ∷ value.1.0 ∷ value.2.0 ∷ []))) }
         ensures { Adds self.old (verdict_line (group ∷ row ∷ index ∷ value.0.0 ∷ value.1.0 ∷ value.2.0 ∷ [])) self.new }
     {
+        let [a, b, c] = value.words();
         self.put_str("nonzero");
-        self.put_rest(&[group, row, index, value.0.0, value.1.0, value.2.0]);
+        self.put_rest(&[group, row, index, a, b, c]);
     }
 
     // Puts the line of a refusal with this number.

@@ -38,6 +38,8 @@ const MAX_PRINTED_ROWS: usize = 512;
 pub const MAX_TEXT: usize = 107804;
 
 // Room for the most input and one byte more, by which a longer input is told: all 0.
+// This and `room` are no `[0; N]` in `u32list`: a room of ones, or a byte less (edits `input_room_of_ones` ..; `room_of_ones`, `room_a_byte_less`, in code
+// and clause of four bytes), is refused, and in `u32list::run`, which promises nothing of them, it was not.
 pub fn input_room() -> [u8; MAX_INPUT + 1]
     ensures { result ≡ replicate (max_input + 1) 0 }
 {
@@ -73,6 +75,7 @@ fn put_opening(text: &mut Text, head: Head, table: &[u64], sum: XFieldElement)
 }
 
 // Puts the line of a constraint that is not zero.
+// Not by `Nonzero::words`: its 1 at the front would have to be cut off, and the method of `text` would take six words where it has an element now.
 pub fn put_nonzero(text: &mut Text, found: Nonzero)
     requires { HasRoom text.old (length (verdict_line (nonzero_answer found).values)) }
     ensures { Adds text.old (verdict_line (nonzero_answer found).values) text.new }
@@ -181,6 +184,7 @@ fn put_stored(text: &mut Text, bytes: &[u8], challenges: &[u64]) -> Result<(), R
     let mut keys = [0u64; U32TableEntry::WIDTH * MAX_PLACES];
     let mut multiplicities = [0u64; MAX_PLACES];
     let mut holds = [0u64; MAX_PLACES];
+    // By its fields, for the reason that the header of u32_table gives.
     let mut list = LentListMut {
         sizes: Sizes {
             capacity: MAX_PLACES,

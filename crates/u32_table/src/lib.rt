@@ -4,6 +4,8 @@
 // looked at; on every other refusal it is untouched, but for u32_table_replay, which says on a refusal too how many steps were done. Its words past
 // those stated are always untouched. That parameters are flat, refusals numbers and answers words of a lent array is the C interface: here the
 // parameters become the structs that the calls take.
+// `LentListMut` and `OtherCounts` are made by their fields: a `new` takes the same parts, and has to promise of each array, in a clause of its own, that it
+// is the one lent, which the fields say by themselves; tried so, the clause `list` of four functions needs an answer each, where the check finds it now.
 #![tactic(auto)]
 
 ghost use Rattle.std.specs.Prelude.{◌≡◌};
@@ -24,7 +26,7 @@ ghost use Rattle.archive.specs.Archives.{archive_all, restore_all};
 ghost use Rattle.c_lookups.specs.LookupAnswers.{lent_cascade, lent_lookups, looked_up_due, byte_output_due, cascade_output_due};
 
 use isa::U32TableEntry;
-use list::{LentCounts, LentList, LentListMut, Sizes};
+use list::{LentList, LentListMut, Sizes};
 use list_shared::OtherCounts;
 use lookup::{LentCascade, LentLookupsMut};
 
@@ -194,14 +196,7 @@ pub extern "C" fn u32_table_plan(
 ) -> u64
     ensures { PlanAnswers (lent_list capacity used keys.now multiplicities.now holds.now) answers.old result answers.new }
 {
-    let list = LentList {
-        list: LentCounts {
-            sizes: Sizes { capacity, used },
-            keys,
-            multiplicities,
-        },
-        holds,
-    };
+    let list = LentList::new(Sizes { capacity, used }, keys, multiplicities, holds);
     c_lists::plan(&list, answers)
 }
 
@@ -248,14 +243,7 @@ pub extern "C" fn u32_table_write(
     ensures answers { WriteAnswers (lent_list capacity used keys.now multiplicities.now holds.now) out.old answers.old result answers.new }
     ensures bytes { WriteLeaves (lent_list capacity used keys.now multiplicities.now holds.now) out.old answers.old out.new }
 {
-    let list = LentList {
-        list: LentCounts {
-            sizes: Sizes { capacity, used },
-            keys,
-            multiplicities,
-        },
-        holds,
-    };
+    let list = LentList::new(Sizes { capacity, used }, keys, multiplicities, holds);
     c_lists::write(&list, out, answers)
 }
 
@@ -273,14 +261,7 @@ pub extern "C" fn u32_table_fill(
     ensures answers { FillAnswers (lent_list capacity used keys.now multiplicities.now holds.now) table.old answers.old result answers.new }
     ensures table { FillLeaves (lent_list capacity used keys.now multiplicities.now holds.now) table.old answers.old table.new }
 {
-    let list = LentList {
-        list: LentCounts {
-            sizes: Sizes { capacity, used },
-            keys,
-            multiplicities,
-        },
-        holds,
-    };
+    let list = LentList::new(Sizes { capacity, used }, keys, multiplicities, holds);
     c_tables::fill(&list, table, answers)
 }
 

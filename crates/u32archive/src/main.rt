@@ -4,6 +4,7 @@
 #![tactic(auto)]
 
 ghost use Rattle.std.specs.Prelude.{◌*◌, ◌≤◌, length};
+ghost use Rattle.table.specs.Columns.{row_count};
 ghost use Rattle.table_text.specs.TableText.{max_words, most_rows};
 ghost use Rattle.archive_text.specs.Packing.{max_archive};
 
@@ -40,22 +41,17 @@ fn pack<R: Read, W: Write, E: Write>(
     Ok(())
 }
 
-// Prints the rows of a part, or says on standard error why not.
-fn print_part<R, W: Write, E: Write>(streams: &mut Streams<R, W, E>, table: &[u64], aux: &[u64]) {
-    let rows = (table.len() / MainRow::WIDTH)
-        .min(aux.len() / AuxRow::WIDTH)
-        .min(PART_ROWS);
+// Prints rows, each with its sum.
+// No `?`: after a part that could not be written the next is tried, as the program always did: a failure that passes costs no more than its part.
+fn print_rows<R, W: Write, E: Write>(streams: &mut Streams<R, W, E>, table: &[u64], aux: &[u64])
+    requires { 3 * row_count table.now ≤ length aux.now }
+{
     let mut out = io::large_buffer();
-    let n = archive_text::put_rows(table, aux, rows, &mut out);
-    streams::write_or_tell(&mut streams.output, &mut streams.errors, &out[..n]);
-}
-
-// Prints rows, each with its sum. After a part that could not be written the next is tried: a failure that passes costs no more than its part.
-fn print_rows<R, W: Write, E: Write>(streams: &mut Streams<R, W, E>, table: &[u64], aux: &[u64]) {
     let parts = table.chunks(MainRow::WIDTH * PART_ROWS);
     let sums = aux.chunks(AuxRow::WIDTH * PART_ROWS);
     for (part, sums) in parts.zip(sums) {
-        print_part(streams, part, sums);
+        let n = archive_text::put_rows(part, sums, &mut out);
+        streams::write_or_tell(&mut streams.output, &mut streams.errors, &out[..n]);
     }
 }
 

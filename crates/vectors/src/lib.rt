@@ -126,6 +126,7 @@ impl Numbers<'_> {
 
 // Document 01's number of an answer: 0 where it is a value, and else the reason's.
 // Of any answer, as it is lent. `c_answers::number` takes one without a value, and promises the definition that the C functions cite.
+// One for both would stand in `words`, and its clause would have to be turned into that of the C functions.
 pub fn number_of<T>(answer: &Result<T, Refusal>) -> u64
     ensures { MatchResult answer.now (λ _. result ≡ 0) (λ reason. result ≡ refusal_number reason) }
 {

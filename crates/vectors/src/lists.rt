@@ -7,7 +7,7 @@ ghost use Rattle.vectors.specs.Same.{same_first};
 
 use crate::{Numbers, same_first};
 use arrayvec::ArrayVec;
-use list::{LentCounts, LentListMut, Sizes};
+use list::{LentListMut, Sizes};
 
 // A list in arrays that have room for K words of keys, and for M multiplicities and holds.
 #[derive(Drop)]
@@ -89,17 +89,11 @@ impl<const K: usize, const M: usize> LentList<K, M> {
     pub fn lend(&self) -> list::LentList<'_>
         ensures { held_in result ≡ held_list self.now.sizes self.now.keys.items self.now.multiplicities.items self.now.holds.items }
     {
-        list::LentList {
-            list: LentCounts {
-                sizes: self.sizes,
-                keys: &self.keys,
-                multiplicities: &self.multiplicities,
-            },
-            holds: &self.holds,
-        }
+        list::LentList::new(self.sizes, &self.keys, &self.multiplicities, &self.holds)
     }
 
-    // The same, to be changed; the sizes that a call leaves are in what was lent.
+    // The same, to be changed; the sizes that a call leaves are in what was lent. It is made by its fields, for the reason that the header of u32_table
+    // gives.
     pub fn lend_mut(&mut self) -> LentListMut<'_>
         ensures { held_in_mut result ≡ held_list self.old.sizes self.old.keys.items self.old.multiplicities.items self.old.holds.items }
     {

@@ -6,4 +6,4 @@ pub returns-in-Ok : goal.returns-in-Ok
 returns-in-Ok c = rows_restored _ _ _ c.unpack_all.ensures c.in-Ok.is
 
 pub returns-in-Err : goal.returns-in-Err
-returns-in-Err c = fault_unpacked _ _ _ c.unpack_all.ensures _ c.in-Err.is c.put_fault.ensures
+returns-in-Err c = fault_unpacked _ _ _ c.unpack_all.ensures _ c.in-Err.is c.put.ensures

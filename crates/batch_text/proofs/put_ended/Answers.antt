@@ -5,4 +5,4 @@ pub returns-in-Err : goal.returns-in-Err
 returns-in-Err c = rw c.in-Err.is c.put_fault.ensures
 
 pub returns-in-Ok : goal.returns-in-Ok
-returns-in-Ok c = rw c.in-Ok.is c.put_sheet.ensures
+returns-in-Ok c = rw c.in-Ok.is c.put.ensures

@@ -3,7 +3,7 @@ use mathlib.Core.Path.{ap}
 use Rattle.words.proofs.Judgements.{handed_on}
 use Rattle.words.proofs.Outcomes.{leaves_said}
 use Rattle.batches.specs.Batches.{batched_answer}
-use Rattle.batches.proofs.Answering.{trial_declined, trial_tells, torn_leaves, refused_leaves, short_leaves, written_fits, written_leaves, written_lawful}
+use Rattle.batches.proofs.Answering.{trial_declined, trial_tells, trial_rows, torn_leaves, refused_leaves, short_leaves, written_fits, written_leaves, written_lawful}
 use Rattle.batches.proofs.batches.Goals as goal
 
 pub returns-then-results-ne0-clause-exact : goal.returns-then-results-ne0-clause-exact
@@ -18,14 +18,15 @@ returns-then-results-totals-clause-exact c =
     let tried = trial_tells _ _ (rw (c.in_ok-each.ensures.0, c.in_ok-each.ensures.1) at c.tally-totals.ensures) in
     short_leaves _ _ _ c.if-results-ne0.false tried c.if-results-totals.true
 
-pub write_batches-requires : goal.write_batches-requires
-write_batches-requires c =
+pub write-requires : goal.write-requires
+write-requires c =
     let tried = trial_tells _ _ c.tally-totals.ensures in written_fits _ _ c.args.results.now c.if-results-ne0.false tried c.if-results-totals.false
 
 pub returns : goal.returns
 returns c =
     let tried = trial_tells _ _ (rw (c.in_ok-each.ensures.0, c.in_ok-each.ensures.1) at c.tally-totals.ensures) in
-    let written = rw (c.in_ok-each.ensures.0, c.in_ok-each.ensures.1) at c.write_batches.ensures in record {
+    let written = rw (c.in_ok-each.ensures.0, c.in_ok-each.ensures.1) at c.write.ensures in record {
       exact = written_leaves _ _ _ c.if-results-ne0.false tried c.if-results-totals.false written;
       law = written_lawful _ _ _ c.if-results-ne0.false tried c.if-results-totals.false written;
+      rows = trial_rows _ _ tried;
     }

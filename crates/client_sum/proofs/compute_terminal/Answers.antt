@@ -21,7 +21,7 @@ use Rattle.table.specs.Challenges.{Challenges, challenges_of}
 use Rattle.sums.specs.RunningSum.{running_sum}
 use Rattle.client_sum.specs.Client.{entry_denominator, request_count, request_at, request_summand, request_reason}
 use Rattle.client_sum.proofs.Sums.{request_denominator, request_turn}
-use Rattle.client_sum.proofs.Reasons.{not_admitted, is_flat, is_fine, torn_requests, no_challenges, unreduced, request_by_request, refused, summed}
+use Rattle.client_sum.proofs.Reasons.{not_admitted, is_flat, is_fine, request_by_request, refused, summed}
 use Rattle.client_sum.proofs.compute_terminal.Goals as goal
 
 -- ---- a turn: request i, as it was read, and what `admit` answered
@@ -48,19 +48,6 @@ module _ (requests challenges : List ℕ) (i : ℕ) {request : U32TableEntry} (a
     sum_turn : {sum next inverse : Ext} → sum ≡ running_sum (request_summand requests challenges) i
         → InverseOrZeroX d inverse → next ≡ add_x sum inverse → next ≡ running_sum (request_summand requests challenges) (i + 1)
     sum_turn {sum} {next} {inverse} s v n = request_turn requests challenges i s (n ∙ ap (add_x sum) (inv_x_only d inverse v ∙ ap inv_x denominator_known))
-
-pub returns-then-requests-ne0 : goal.returns-then-requests-ne0
-returns-then-requests-ne0 c = refused _ _ (torn_requests _ _ c.if-requests-ne0.true)
-
-pub returns-then-not-has_shape : goal.returns-then-not-has_shape
-returns-then-not-has_shape c =
-    refused _ _ (no_challenges _ _ (omega (arith, c.if-requests-ne0.false)) (sym c.if-not-has_shape.ensures))
-
-pub returns-then-not-all_reduced : goal.returns-then-not-all_reduced
-returns-then-not-all_reduced c =
-    refused _ _
-    (unreduced _ _ (omega (arith, c.if-requests-ne0.false)) (sym c.if-not-has_shape.ensures)
-    (sym c.if-not-all_reduced.ensures))
 
 pub loop-i-init : goal.loop-i-init
 unfolding running_sum

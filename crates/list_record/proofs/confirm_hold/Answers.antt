@@ -17,7 +17,7 @@ use Rattle.list.specs.Holds.{HeldList, hold_at}
 use Rattle.list.proofs.JudgedLists.{count_within}
 use Rattle.list_record.specs.Recording.{settled}
 use Rattle.list_record.specs.Holding.{confirm_reason, confirm_all}
-use Rattle.list_record.proofs.HoldingCases.{confirm_without, confirm_full, confirm_fine, drop_room}
+use Rattle.list_record.proofs.HoldingCases.{confirm_without, confirm_full, confirm_fine}
 use Rattle.list_record.proofs.confirm_hold.Goals as goal
 
 refused : (h : HeldList) (i : ℕ) {k : Refusal} → confirm_reason h i ≡ Declined k → Leaves (confirm_all h i) (declined k) h
@@ -38,34 +38,14 @@ rises m e = count_within _ (one_more m e)
 
 pub returns-in_err-judge_drop : goal.returns-in_err-judge_drop
 returns-in_err-judge_drop c =
-    leaves_said (ap completed_answer (handed_on _ c.from_residual.ensures.1)) (refused _ _ (confirm_without _ _ (sym c.in_err-judge_drop.ensures)))
-
-pub offset_bounds-multiplicities-position : goal.offset_bounds-multiplicities-position
-offset_bounds-multiplicities-position c =
-    let room = drop_room _ _ (sym c.in_ok-judge_drop.ensures) in
-    search rules
-
-pub bounds-multiplicities-position : goal.bounds-multiplicities-position
-bounds-multiplicities-position c =
-    let room = drop_room _ _ (sym c.in_ok-judge_drop.ensures) in
-    search rules
+    leaves_said (ap completed_answer (handed_on _ c.from_residual.ensures.1)) (refused _ _ (confirm_without _ _ (sym (rw c.new.ensures at c.in_err-judge_drop.ensures.reason))))
 
 pub returns-then-one_more_is_full : goal.returns-then-one_more_is_full
 unfolding multiplicity_at
 returns-then-one_more_is_full c =
     refused _ _
-    (confirm_full _ _ (sym c.in_ok-judge_drop.ensures)
+    (confirm_full _ _ (sym (rw c.new.ensures at c.in_ok-judge_drop.ensures.reason))
     (one_more _ (sym c.one_more_is_full.ensures ∙ c.if-one_more_is_full.true)))
-
-pub offset_bounds-multiplicities-position-2 : goal.offset_bounds-multiplicities-position-2
-offset_bounds-multiplicities-position-2 c =
-    let room = drop_room _ _ (sym c.in_ok-judge_drop.ensures) in
-    search rules
-
-pub bounds-multiplicities-position-2 : goal.bounds-multiplicities-position-2
-bounds-multiplicities-position-2 c =
-    let room = drop_room _ _ (sym c.in_ok-judge_drop.ensures) in
-    search rules
 
 pub overflow_add-multiplicities : goal.overflow_add-multiplicities
 unfolding multiplicity_at hold_at
@@ -73,36 +53,10 @@ overflow_add-multiplicities c =
     let below = rises _ (sym c.one_more_is_full.ensures ∙ c.if-one_more_is_full.false) in
     search rules
 
-pub bounds-multiplicities-position-3 : goal.bounds-multiplicities-position-3
-bounds-multiplicities-position-3 c =
-    let room = drop_room _ _ (sym c.in_ok-judge_drop.ensures) in
-    search rules
-
-pub offset_bounds-holds-position : goal.offset_bounds-holds-position
-offset_bounds-holds-position c =
-    let room = drop_room _ _ (sym c.in_ok-judge_drop.ensures) in
-    search rules
-
-pub bounds-holds-position : goal.bounds-holds-position
-bounds-holds-position c =
-    let room = drop_room _ _ (sym c.in_ok-judge_drop.ensures) in
-    search rules
-
-pub bounds-holds-position-2 : goal.bounds-holds-position-2
-bounds-holds-position-2 c =
-    let room = drop_room _ _ (sym c.in_ok-judge_drop.ensures) in
-    search rules
-
-pub overflow_sub-holds : goal.overflow_sub-holds
-unfolding multiplicity_at hold_at
-overflow_sub-holds c =
-    let room = drop_room _ _ (sym c.in_ok-judge_drop.ensures) in
-    search rules
-
 pub returns : goal.returns
 unfolding multiplicity_at hold_at
 returns c =
     confirmed _ _
-    (confirm_fine _ _ (sym c.in_ok-judge_drop.ensures)
+    (confirm_fine _ _ (sym (rw c.new.ensures at c.in_ok-judge_drop.ensures.reason))
     (one_more _ (sym c.one_more_is_full.ensures ∙ c.if-one_more_is_full.false)))
     refl

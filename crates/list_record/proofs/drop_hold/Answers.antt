@@ -2,7 +2,6 @@
 use Prim.Native.Nat.{ℕ, ◌-◌}
 use mathlib.Core.Path.{◌≡◌, refl, sym, ap, ◌∙◌}
 use mathlib.Core.List.{[]}
-use borrow.Author.Rules.{rules}
 use lib.ListN.{set}
 use lib.Seq.{set-get_or}
 use Rattle.words.specs.Answers.{done, declined}
@@ -15,7 +14,6 @@ use Rattle.list.specs.Lists.{multiplicity_at}
 use Rattle.list.specs.Holds.{HeldList, held_list, hold_at}
 use Rattle.list_record.specs.Recording.{settled}
 use Rattle.list_record.specs.Holding.{drop_reason, drop_all}
-use Rattle.list_record.proofs.HoldingCases.{drop_room}
 use Rattle.list_record.proofs.drop_hold.Goals as goal
 
 refused : (h : HeldList) (i : ℕ) {k : Refusal} → drop_reason h i ≡ Declined k → Leaves (drop_all h i) (declined k) h
@@ -35,30 +33,9 @@ unfolding drop_all
 dropped h i e q = leaves_done [] h _ e refl (q ∙ kept h i (hold_at h i - 1))
 
 pub returns-in_err-judge_drop : goal.returns-in_err-judge_drop
-returns-in_err-judge_drop c = leaves_said (ap completed_answer (handed_on _ c.from_residual.ensures.1)) (refused _ _ (sym c.in_err-judge_drop.ensures))
-
-pub offset_bounds-holds-position : goal.offset_bounds-holds-position
-offset_bounds-holds-position c =
-    let room = drop_room _ _ (sym c.in_ok-judge_drop.ensures) in
-    search rules
-
-pub bounds-holds-position : goal.bounds-holds-position
-bounds-holds-position c =
-    let room = drop_room _ _ (sym c.in_ok-judge_drop.ensures) in
-    search rules
-
-pub bounds-holds-position-2 : goal.bounds-holds-position-2
-bounds-holds-position-2 c =
-    let room = drop_room _ _ (sym c.in_ok-judge_drop.ensures) in
-    search rules
-
-pub overflow_sub-holds : goal.overflow_sub-holds
-unfolding multiplicity_at hold_at
-overflow_sub-holds c =
-    let room = drop_room _ _ (sym c.in_ok-judge_drop.ensures) in
-    search rules
+returns-in_err-judge_drop c = leaves_said (ap completed_answer (handed_on _ c.from_residual.ensures.1)) (refused _ _ (sym (rw c.new.ensures at c.in_err-judge_drop.ensures.reason)))
 
 pub returns : goal.returns
 unfolding hold_at
 returns c =
-    dropped _ _ (sym c.in_ok-judge_drop.ensures) refl
+    dropped _ _ (sym (rw c.new.ensures at c.in_ok-judge_drop.ensures.reason)) refl

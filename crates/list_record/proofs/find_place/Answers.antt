@@ -29,7 +29,7 @@ returns-in_err-admitted c =
 pub find_admitted-requires : goal.find_admitted-requires
 find_admitted-requires c =
     let fits = held_shaped _ (sym c.in_ok-held_shape.ensures) in
-    (omega arith, omega arith, omega arith)
+    (omega arith, omega arith, omega arith, omega arith)
 
 pub returns : goal.returns
 returns c =

@@ -1,6 +1,6 @@
 -- `list_repeats::has_repeats` meets its contract. Outer loop: no two of the keys passed are equal, and each one's place is on the chain of its bucket.
 -- Inner loop: a place on the chain whose key may be equal to the key at place i is still ahead. A chain leads back, so it ends. Assumes nothing.
-use Prim.Native.Nat.{ℕ, ◌<◌}
+use Prim.Native.Nat.{ℕ, ◌/◌, ◌<◌}
 use mathlib.Core.Path.{◌≡◌, refl, sym, ap, ◌∙◌}
 use mathlib.Core.List.{List}
 use native.Mathlib.Omega.{arith}
@@ -8,6 +8,7 @@ use borrow.Author.Rules.{rules}
 use lib.ListN.{length, get_or, length-set}
 use Rattle.std.specs.Prelude.{Option, None, Some}
 use Rattle.words.specs.Limits.{max_places}
+use Rattle.isa.specs.Entries.{entry_width}
 use Rattle.list.specs.declared.Sizes.{Sizes}
 use Rattle.list.specs.Lists.{u32_list, entry_at}
 use Rattle.list.proofs.Finding.{equal_is_same}
@@ -82,5 +83,5 @@ loop-i-preserved c =
 pub returns : goal.returns
 returns c = λ s ms.
     sym
-    (no_repeat (entry_at (u32_list s c.args.keys.now ms)) c.args.n
+    (no_repeat (entry_at (u32_list s c.args.keys.now ms)) (length c.args.keys.now / entry_width)
     (λ a b p q. c.loop-i.invariant.5 s ms a b p (let h = c.loop-i-test.false in omega arith)))

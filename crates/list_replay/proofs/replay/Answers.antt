@@ -64,12 +64,12 @@ returns-in_err-map_err-clause-outcome c =
     let q = step_stopped c.replay_step.result {i = c.loop-done.done-counter} c.map_err.ensures.cases (λ k t met. search rules) c.in_err-map_err.was in
     rw (p.1, p.2, q.2)
     (walk_stopped _ _ _ _ _ c.loop-done-test.true (walks _ _ (lent c.view.ensures c.in_ok-held_shape.ensures) c.if-trace-ne0.false)
-    c.loop-done.invariant.1 (taken _ _ c.step_at.ensures c.replay_step.ensures.outcome) q.1)
+    c.loop-done.invariant.1 (taken _ _ c.at.ensures c.replay_step.ensures.outcome) q.1)
 
 pub loop-done-preserved : goal.loop-done-preserved
 loop-done-preserved c = (
   after c.loop-done.invariant.0 c.replay_step.ensures.same_arrays,
-  walk_goes_on _ _ _ _ _ c.loop-done-test.true c.loop-done.invariant.1 (taken _ _ c.step_at.ensures c.replay_step.ensures.outcome)
+  walk_goes_on _ _ _ _ _ c.loop-done-test.true c.loop-done.invariant.1 (taken _ _ c.at.ensures c.replay_step.ensures.outcome)
       (step_done _ c.map_err.ensures.variant c.in_ok-map_err.was),
 )
 

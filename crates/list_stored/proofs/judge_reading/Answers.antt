@@ -4,6 +4,7 @@ use Rattle.words.proofs.Judgements.{handed_on}
 use Rattle.list_bytes.specs.Packed.{stored_n}
 use Rattle.list_stored.specs.Stored.{content_reason}
 use Rattle.list_stored.proofs.Reasons.{taken_refused, read_shape, read_torn, read_full, read_used, read_content}
+use Rattle.list_stored.proofs.judge_reading.Goals.{then-held-stored-via-then-held-stored, then-held-stored-via-else-held-stored+then-held-gt0}
 use Rattle.list_stored.proofs.judge_reading.Goals as goal
 
 pub returns-in_err-held_shape : goal.returns-in_err-held_shape
@@ -17,10 +18,10 @@ pub returns-then-held-stored : goal.returns-then-held-stored
 returns-then-held-stored c =
     let stored = c.in_ok-stored.ensures in
     let n = c.in_ok-stored.stored.whole.0 ∙ ap stored_n stored.0 in
-    read_full _ _ (sym c.in_ok-held_shape.ensures) stored.1 (let h = c.if-held-stored.true in omega arith)
-
-pub returns-then-held-gt0 : goal.returns-then-held-gt0
-returns-then-held-gt0 c = read_used _ _ (sym c.in_ok-held_shape.ensures) c.in_ok-stored.ensures.1 c.if-held-gt0.true
+    elim c.then-held-stored.branch [
+      | then-held-stored-via-then-held-stored w ↦ read_full _ _ (sym c.in_ok-held_shape.ensures) stored.1 (let h = w.if-held-stored.true in omega arith)
+      | then-held-stored-via-else-held-stored+then-held-gt0 w ↦ read_used _ _ (sym c.in_ok-held_shape.ensures) stored.1 w.if-held-gt0.true
+    ]
 
 pub returns-in_err-judge_content : goal.returns-in_err-judge_content
 returns-in_err-judge_content c =

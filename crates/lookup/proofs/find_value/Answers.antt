@@ -1,6 +1,6 @@
 -- `lookup::find_value` meets its contract: of the runs that are passed `position` tells that none holds the value, and of the places from there on `find`
 -- tells which is the first that does. Assumes nothing.
-use Rattle.std.proofs.Common.{◌≡◌, ◌≢◌, ℕ, ◌+◌, ◌*◌, ◌/◌, ◌-◌, ◌≤◌, ◌<◌, true, false, List, [], length, length-take-le, get_or, take, Option, Some, None, MatchOption, IsSomeAnd, IfSome, sym, ap, ◌∙◌, arith, rules, tests, Bor}
+use Rattle.std.proofs.Common.{◌≡◌, ◌≢◌, ℕ, ◌+◌, ◌*◌, ◌/◌, ◌-◌, ◌≤◌, ◌<◌, true, false, List, [], length, get_or, Option, Some, None, MatchOption, IsSomeAnd, IfSome, sym, ap, ◌∙◌, arith, rules, tests, Bor}
 use Rattle.std.specs.Option.{unwrap_or, option_map}
 use Rattle.std.specs.Iterator.Runs.{Run, AllItems, AllItemsBelow, IsChunksExactRun}
 use Rattle.std.specs.List.{IsSubsliceAt}
@@ -33,24 +33,22 @@ module _ {S : Type 0} {steps : S → Option (Bor (List ℕ)) → S → Type 0} (
   passed (Some i) e told = rw e (omega (arith, runs.0, told.0), λ k h. missed_at k (u.at k) (runs.2 k) ((told.1 keeps).1 k h))
 
 -- what the search from place i on tells of the search from place 0 on
-found : (keys : List ℕ) (v n i : ℕ) (r : Option ℕ) → i ≤ n → find_from keys v 0 n ≡ find_from keys v i (n - i)
-    → MatchOption r ((k : ℕ) → i ≤ k → k < n → get_or keys k 0 ≢ v)
-    (λ at. (i ≤ at) × (at < n) × (get_or keys at 0 ≡ v) × ((k : ℕ) → i ≤ k → k < at → get_or keys k 0 ≢ v))
-    → MatchOption r (find_from keys v 0 n ≡ n) (λ at. (at < n) × (at ≡ find_from keys v 0 n))
-found keys v n i None h q none = q ∙ find_at keys v i n n h (omega arith) none (λ b. absurd (omega arith))
-found keys v n i (Some at) h q told = (told.1, sym (q ∙ find_at keys v i at n told.0 (omega (arith, told.1)) told.3 (λ b. told.2)))
+found : (keys : List ℕ) (v i : ℕ) (r : Option ℕ) → i ≤ length keys → find_from keys v 0 (length keys) ≡ find_from keys v i (length keys - i)
+    → MatchOption r ((k : ℕ) → i ≤ k → k < length keys → get_or keys k 0 ≢ v)
+    (λ at. (i ≤ at) × (at < length keys) × (get_or keys at 0 ≡ v) × ((k : ℕ) → i ≤ k → k < at → get_or keys k 0 ≢ v))
+    → MatchOption r (find_from keys v 0 (length keys) ≡ length keys) (λ at. (at < length keys) × (at ≡ find_from keys v 0 (length keys)))
+found keys v i None h q none = q ∙ find_at keys v i (length keys) (length keys) h (omega arith) none (λ b. absurd (omega arith))
+found keys v i (Some at) h q told = (told.1, sym (q ∙ find_at keys v i at (length keys) told.0 (omega (arith, told.1)) told.3 (λ b. told.2)))
 
 pub returns : goal.returns
 returns c =
     let keys = c.args.keys.now in
     let v = c.args.value in
-    let n = c.args.n in
     let chunks = c.chunks_exact.ensures in
     let run = c.position.ensures.runs in
     let u = run.0 in
-    let long = length-take-le n keys c.requires in
     let runs = rw (run.1, chunks.size, chunks.rest) at (chunks.runs u u.seen) in
-    let past = passed u (take n keys) v (runs (omega arith)) _ _ _ (λ x r q k. search rules) (λ x k. search (rules, tests)) c.position.result (rw long c.unwrap_or-passed.ensures) run.2 in
+    let past = passed u keys v (runs (omega arith)) _ _ _ (λ x r q k. search rules) (λ x k. search (rules, tests)) c.position.result c.unwrap_or-passed.ensures run.2 in
     let asked = first_from_Range _ _ _ _ (λ place. get_or keys place 0 ≡ v) (λ place. get_or keys place 0 ≢ v) c.find.ensures.ran (λ x q k. search (rules, tests)) (λ x q k. search (rules, tests)) in
-    found keys v n (256 * c.unwrap_or-passed.result) _ (omega (arith, past.0, long))
-    (find_runs keys v n c.requires c.unwrap_or-passed.result (omega (arith, past.0, long)) past.1) asked
+    found keys v (256 * c.unwrap_or-passed.result) _ (omega (arith, past.0))
+    (find_runs keys v c.unwrap_or-passed.result (omega (arith, past.0)) past.1) asked

@@ -12,8 +12,8 @@ pub put_rest-requires : goal.put_rest-requires
 unfolding verdict_line line
 put_rest-requires c =
     let r = reached c.put_str.ensures in
-    omega (arith, c.requires, r.len, r.size)
+    rw c.words.ensures (omega (arith, c.requires, r.len, r.size))
 
 pub returns : goal.returns
 unfolding verdict_line line
-returns c = adds_then c.put_str.ensures c.put_rest.ensures
+returns c = adds_then c.put_str.ensures (rw c.words.ensures at c.put_rest.ensures)
