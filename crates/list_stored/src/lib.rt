@@ -22,7 +22,7 @@ fn length_with(width: usize, n: usize) -> usize
 }
 
 // The bytes with their number of entries. Reason 10: they are not as many as that number says, in the new form or in the old, or it is too large.
-// The first test is apart: with the others it would read the count three times.
+// The first test is apart: with the others it would read the count four times.
 // Which form they have is not handed on: a field for it would ask more of who makes a `StoredList`.
 fn stored_list(bytes: &[u8]) -> Result<StoredList<'_>, Refusal>
     ensures { TakenUnless (torn bytes.now) bytes.now result }
