@@ -8,7 +8,6 @@ use Rattle.words.specs.Answers.{Answer, done, declined}
 use Rattle.words.specs.Refusals.{refusal_number}
 use Rattle.words.specs.declared.Refusal.{Refusal}
 use Rattle.words.specs.declared.Refusal.TheVariants.{Shape}
-use Rattle.list.specs.declared.Sizes.{Sizes}
 use Rattle.list.specs.Holds.{HeldList, held_list}
 
 -- what the result of a call answers: its values, or the reason
@@ -51,13 +50,9 @@ answers_due size answers due =
 abbrev pub report_due : ℕ → List ℕ → Answer → List ℕ
 report_due size answers due = cond (too_short size answers) answers (sets answers 0 due.values)
 
--- another lent array afterwards: as it was where `answers` is too short, else as the call leaves it
-unfoldable pub lent_due : ℕ → List ℕ → List ℕ → List ℕ → List ℕ
+-- another lent array afterwards, or the sizes that are lent with it: as they were where `answers` is too short, else as the call leaves them
+unfoldable pub lent_due : {A : Type 0} → ℕ → List ℕ → A → A → A
 lent_due size answers before after = cond (too_short size answers) before after
-
--- and the sizes of one that is lent with its sizes
-abbrev pub sizes_due : ℕ → List ℕ → Sizes → Sizes → Sizes
-sizes_due size answers before after = cond (too_short size answers) before after
 
 -- the three arrays of a lent list afterwards
 pub record ListLeft (size : ℕ) (answers : List ℕ) (before due : HeldList) (ks ms hs : List ℕ) : Type 0 where

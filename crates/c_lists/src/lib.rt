@@ -8,7 +8,7 @@ ghost use Rattle.list.specs.Holds.{held_list};
 ghost use Rattle.list.specs.Lent.{held_in, held_in_mut, SameArrays};
 ghost use Rattle.list_shared.specs.Shared.{record_shared, hold_shared, replay_shared, read_shared};
 ghost use Rattle.list_shared.specs.Lent.{counts_in, SameCounts};
-ghost use Rattle.c_answers.specs.Exports.{sizes_due, Exported};
+ghost use Rattle.c_answers.specs.Exports.{lent_due, Exported};
 ghost use Rattle.c_lists.specs.ListAnswers.{compare_all};
 ghost use Rattle.c_lists.specs.ListAnswers.{RecordAnswers, RecordLeaves, HoldAnswers, HoldLeaves, ConfirmLeaves, DropLeaves};
 ghost use Rattle.c_lists.specs.ListAnswers.{ReplayAnswers, ReplayLeaves, PlanAnswers, ReadAnswers, ReadLeaves, WriteAnswers, WriteLeaves};
@@ -38,7 +38,7 @@ pub fn record_entry(
 ) -> u64
     ensures answers { RecordAnswers (held_in_mut list.old) (counts_in other.old) entry answers.old result answers.new }
     ensures list { RecordLeaves (held_in_mut list.old) (counts_in other.old) entry answers.old list.new.keys.now list.new.multiplicities.now list.new.holds.now (counts_in other.new) }
-    ensures sizes { list.new.sizes ≡ sizes_due 2 answers.old list.old.sizes (record_shared (held_in_mut list.old) (counts_in other.old) entry).left.own.list.sizes }
+    ensures sizes { list.new.sizes ≡ lent_due 2 answers.old list.old.sizes (record_shared (held_in_mut list.old) (counts_in other.old) entry).left.own.list.sizes }
     ensures same_arrays { SameArrays list.old list.new }
     ensures same_counts { SameCounts other.old other.new }
 {
@@ -58,7 +58,7 @@ pub fn hold_entry(
 ) -> u64
     ensures answers { HoldAnswers (held_in_mut list.old) (counts_in other.old) entry answers.old result answers.new }
     ensures list { HoldLeaves (held_in_mut list.old) (counts_in other.old) entry answers.old list.new.keys.now list.new.multiplicities.now list.new.holds.now (counts_in other.new) }
-    ensures sizes { list.new.sizes ≡ sizes_due 2 answers.old list.old.sizes (hold_shared (held_in_mut list.old) (counts_in other.old) entry).left.own.list.sizes }
+    ensures sizes { list.new.sizes ≡ lent_due 2 answers.old list.old.sizes (hold_shared (held_in_mut list.old) (counts_in other.old) entry).left.own.list.sizes }
     ensures same_arrays { SameArrays list.old list.new }
     ensures same_counts { SameCounts other.old other.new }
 {
@@ -105,7 +105,7 @@ pub fn replay(
 ) -> u64
     ensures answers { ReplayAnswers (held_in_mut list.old) (counts_in other.old) trace.now answers.old result answers.new }
     ensures list { ReplayLeaves (held_in_mut list.old) (counts_in other.old) trace.now answers.old list.new.keys.now list.new.multiplicities.now list.new.holds.now (counts_in other.new) }
-    ensures sizes { list.new.sizes ≡ sizes_due 2 answers.old list.old.sizes (replay_shared (held_in_mut list.old) (counts_in other.old) trace.now).left.own.list.sizes }
+    ensures sizes { list.new.sizes ≡ lent_due 2 answers.old list.old.sizes (replay_shared (held_in_mut list.old) (counts_in other.old) trace.now).left.own.list.sizes }
     ensures same_arrays { SameArrays list.old list.new }
     ensures same_counts { SameCounts other.old other.new }
 {
@@ -144,7 +144,7 @@ pub fn read(
 ) -> u64
     ensures answers { ReadAnswers (held_in_mut list.old) (counts_in other.old) bytes.now answers.old result answers.new }
     ensures list { ReadLeaves (held_in_mut list.old) (counts_in other.old) bytes.now answers.old list.new.keys.now list.new.multiplicities.now list.new.holds.now (counts_in other.new) }
-    ensures sizes { list.new.sizes ≡ sizes_due 1 answers.old list.old.sizes (read_shared (held_in_mut list.old) (counts_in other.old) bytes.now).left.own.list.sizes }
+    ensures sizes { list.new.sizes ≡ lent_due 1 answers.old list.old.sizes (read_shared (held_in_mut list.old) (counts_in other.old) bytes.now).left.own.list.sizes }
     ensures same_arrays { SameArrays list.old list.new }
     ensures same_counts { SameCounts other.old other.new }
 {

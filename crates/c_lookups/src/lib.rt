@@ -6,7 +6,7 @@ ghost use Rattle.std.specs.Prelude.{◌≡◌};
 ghost use Rattle.lookup.specs.Cascades.{look_up_all};
 ghost use Rattle.lookup.specs.Lent.{cascade_in, lookups_in, SameArrays};
 ghost use Rattle.lookup_sums.specs.LookupSums.{byte_sum_all, cascade_sum_all};
-ghost use Rattle.c_answers.specs.Exports.{lent_due, sizes_due, Exported};
+ghost use Rattle.c_answers.specs.Exports.{lent_due, Exported};
 ghost use Rattle.c_lookups.specs.LookupAnswers.{looked_up_due, byte_output_due, cascade_output_due};
 
 use lookup::{LentCascade, LentLookupsMut};
@@ -15,7 +15,7 @@ use lookup::{LentCascade, LentLookupsMut};
 #[tactic(auto, unfolding(c_answers::specs::Exports::lent_due))]
 pub fn look_up(tables: &mut LentLookupsMut, limb: u16, answers: &mut [u64]) -> u64
     ensures answers { Exported 1 (looked_up_due (look_up_all (lookups_in tables.old) limb)) answers.old result answers.new }
-    ensures sizes { tables.new.sizes ≡ sizes_due 1 answers.old tables.old.sizes (look_up_all (lookups_in tables.old) limb).left.values.sizes }
+    ensures sizes { tables.new.sizes ≡ lent_due 1 answers.old tables.old.sizes (look_up_all (lookups_in tables.old) limb).left.values.sizes }
     ensures keys { tables.new.keys.now ≡ lent_due 1 answers.old tables.old.keys.now (look_up_all (lookups_in tables.old) limb).left.values.keys }
     ensures multiplicities { tables.new.multiplicities.now ≡ lent_due 1 answers.old tables.old.multiplicities.now (look_up_all (lookups_in tables.old) limb).left.values.multiplicities }
     ensures bytes { tables.new.byte_multiplicities.now ≡ lent_due 1 answers.old tables.old.byte_multiplicities.now (look_up_all (lookups_in tables.old) limb).left.byte_multiplicities }
