@@ -4,9 +4,9 @@
     tools/believe.py
 
 Prints each file with the definitions in it that are needed, then those of the kit's library by module. Where it begins: the `requires` and `ensures` of every `pub fn` in
-crates/*/src, and the statement of every theorem that docs/CLAIMS.md cites. From there it follows each name, by the `use` lines of the file it stands in, to its declaration,
-and on through the names there. Of a theorem only the statement counts, of a definition all of it; but of a decision (`Dec`) the type says all. The types that the code
-declares (`declared`) stand in src, with the contracts.
+crates/*/src, and of every method of a public trait or of an `impl` of a trait for a public type there, with the `ghost` items beside it; and the statement of every theorem
+that docs/CLAIMS.md cites. From there it follows each name, by the `use` lines of the file it stands in, to its declaration, and on through the names there. Of a theorem only
+the statement counts, of a definition all of it; but of a decision (`Dec`) the type says all. The types that the code declares (`declared`) stand in src, with the contracts.
 
 tools/check_claims.py compares this with the list in README.md.
 """
@@ -48,12 +48,12 @@ def tokens(text):
 def imported(text):
     """The `use` lines: names with the module and the name there, and modules that are given a name."""
     names, modules = {}, {}
-    for module, inside in re.findall(r"^(?:ghost )?(?:pub )?use ([^\s{;]+)\.\{([^}]*)\};?", text, re.M):
+    for module, inside in re.findall(r"^ *(?:ghost )?(?:pub )?use ([^\s{;]+)\.\{([^}]*)\};?", text, re.M):
         for part in inside.split(","):
             there, _, here = part.strip().partition(" as ")
             if there:
                 names[bare(here or there)] = (module, there.strip())
-    for module, name in re.findall(r"^(?:ghost )?(?:pub )?use ([^\s{;]+) as ([^\s;]+);?", text, re.M):
+    for module, name in re.findall(r"^ *(?:ghost )?(?:pub )?use ([^\s{;]+) as ([^\s;]+);?", text, re.M):
         modules[name] = module
     return names, modules
 
@@ -162,13 +162,28 @@ def part(path):
     return path.relative_to(CRATES).parts[1]
 
 
+def is_public(block, lines):
+    """Whether a block is a public trait, or an `impl` of a trait for a public type: what it holds is as public, without the word."""
+    found = re.match(r"impl\b.*\sfor\s(?:\w+::)*(\w+)", block)
+    return block.startswith("pub trait ") or (found is not None and any(re.match(rf"pub (?:struct|enum) {found.group(1)}\b", line) for line in lines))
+
+
 def contracts():
-    """The `requires` and `ensures` of each public function: the source file, the function, the text."""
+    """The `requires` and `ensures` of each public function and method, and what a public trait, or an `impl` of a trait for a public type, says of its methods in `ghost` items,
+    as that of an operator; but no proof of a trait's laws. The source file, the name, the text."""
     for path in sorted(CRATES.glob("*/src/*.rt")):
         lines = path.read_text().splitlines()
+        public = False  # in such a trait or impl
         for k, line in enumerate(lines):
-            found = re.match(r'^( *)pub (?:const )?(?:extern "C" )?fn (\w+)', line)
-            if not found:
+            if re.match(r"(pub trait|impl)\b", line):
+                public = is_public(line, lines)
+            elif line.startswith("}"):
+                public = False
+            said = re.match(r" +ghost (?!use |laws )(\w+)(?: =|:) \{", line) if public else None
+            found = re.match(r'^( *)(pub )?(?:const )?(?:extern "C" )?fn (\w+)', line)
+            if said:
+                yield path, said.group(1), line
+            if not found or not (found.group(2) or (public and found.group(1))):
                 continue
             clauses, deep = [], 0
             for later in lines[k:]:
@@ -180,7 +195,7 @@ def contracts():
                     deep += later.count("{") - later.count("}")
                 elif later.rstrip().endswith(("{", "}", ";")):
                     break
-            yield path, found.group(2), "\n".join(clauses)
+            yield path, found.group(3), "\n".join(clauses)
 
 
 def claimed():

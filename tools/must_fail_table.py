@@ -11,6 +11,8 @@ first error shows only that a proof no longer fits the code (a name that is not 
 
 compares the stored page with the folders, and runs nothing: each edit stands in it, under its crate, with its own comment and its mark, no other does, and none names a path of a
 machine. The facts are taken from the page: they are known only once the edits were tried.
+
+A LOG does not say in which of the two folders an edit stands: where a crate has one of the same name in each, no LOG counts for them, and the page's facts are written by hand.
 """
 import pathlib
 import re
@@ -93,14 +95,14 @@ def fact(crate, said):
 
 
 def kept():
-    """The facts that the page names already, by crate and edit."""
+    """The facts that the page names already, by crate and edit, with its mark."""
     facts, crate = {}, ""
     for line in PAGE.read_text().splitlines():
         if line.startswith("## "):
             crate = line[3:].strip()
         cells = line.split(" | ")
         if crate and line.startswith("| ") and len(cells) >= 3 and not line.startswith("| edit |"):
-            facts[crate, cells[0][2:].removesuffix(" +")] = cells[-1].removesuffix(" |")
+            facts[crate, cells[0][2:]] = cells[-1].removesuffix(" |")
     return facts
 
 
@@ -132,13 +134,15 @@ def page(before, tries):
     out = [HEAD]
     count = older = 0
     for crate in crates.uses():
-        edits = sorted((ROOT / "crates" / crate).glob("must-fail*/*.edit"), key=lambda e: e.stem)
+        edits = sorted((ROOT / "crates" / crate).glob("must-fail*/*.edit"), key=lambda e: (e.stem, e.parent.name))
         if not edits:
             continue
         out.append(f"## {crate}\n\n| edit | the wrong program | the fact that fails |\n|---|---|---|")
+        names = [edit.stem for edit in edits]
         for edit in edits:
-            refused, said = tries.get((crate, edit.stem), (True, ""))
-            known = before.get((crate, edit.stem), "?")
+            more = "" if edit.parent.name == "must-fail" else " +"
+            refused, said = tries.get((crate, edit.stem), (True, "")) if names.count(edit.stem) == 1 else (True, "")
+            known = before.get((crate, edit.stem + more), "?")
             if not refused or any(words in said for words in SHAPE_ONLY):
                 bad.append(f"{crate}/{edit.stem}: {said[:100]}")
             elif said:
@@ -147,7 +151,6 @@ def page(before, tries):
                 bad.append(f"{crate}/{edit.stem}: not tried, or no error found")
             count += 1
             older += known.endswith(OLDER)
-            more = "" if edit.parent.name == "must-fail" else " +"
             out.append(f"| {edit.stem}{more} | {comment(edit)} | {known} |")
         out.append("")
     out.append(

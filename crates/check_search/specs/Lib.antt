@@ -1,1 +1,2 @@
+pub mod Nonzeros
 pub mod Finds

@@ -11,7 +11,8 @@ ghost use Rattle.table.specs.Challenges.{challenge_words};
 ghost use Rattle.table.specs.Layouts.{row_of, sum_of, challenges_in};
 ghost use Rattle.air.specs.Constraints.{initial_constraints, consistency_constraints, transition_constraints};
 ghost use Rattle.air.specs.Check.{consistency_at, transition_at, terminal_at, first_in, first_in_rows};
-ghost use Rattle.check_search.specs.Finds.{group_number, nonzero_answer, followed_by};
+ghost use Rattle.check_search.specs.Nonzeros.{group_number, nonzero_answer};
+ghost use Rattle.check_search.specs.Finds.{followed_by};
 
 use table::{AuxRow, Challenges, MainRow, RowPair};
 use xfield::XFieldElement;
@@ -69,33 +70,30 @@ fn first_nonzero(group: Group, row: usize, values: &[XFieldElement]) -> Option<N
     })
 }
 
-// Consistency of a row. One that gets a yes from the test is passed; any other is evaluated.
-fn row_consistency(row: usize, current: MainRow) -> Option<Nonzero>
-    ensures { (next : Answer) → followed_by result next ≡ first_in 1 row 0 (consistency_constraints (row_of current)) next }
-{
-    if check_plain::is_plain_row(current) {
-        return None;
-    }
-    let values = check_rows::consistency_constraints(current);
-    first_nonzero(Group::Consistency, row, &values)
-}
-
-// Consistency, row by row.
+// Consistency, row by row. A row that gets a yes from the test is passed; any other is evaluated.
 pub fn consistency(table: &[u64]) -> Option<Nonzero>
     ensures { (next : Answer) → followed_by result next ≡ first_in_rows (consistency_at table.now) 1 0 (row_count table.now) next }
 {
-    (0..table.len() / MainRow::WIDTH).find_map(|row| row_consistency(row, MainRow::at(table, row)))
-}
-
-// Transition of a pair, which is passed or evaluated as a row is.
-fn pair_transition(weights: Challenges, upper: usize, pair: RowPair) -> Option<Nonzero>
-    ensures { (next : Answer) → followed_by result next ≡ first_in 2 upper 0 (transition_constraints (challenges_in weights) (row_of pair.upper) (row_of pair.lower) (sum_of pair.aux) (sum_of pair.aux_next)) next }
-{
-    if check_plain::is_plain_pair(weights, pair) {
-        return None;
+    'found: {
+        'rows: for row in 0..table.len() / MainRow::WIDTH {
+            let current = MainRow::at(table, row);
+            if check_plain::is_plain_row(current) {
+                continue 'rows;
+            }
+            let values = check_rows::consistency_constraints(current);
+            for (index, value) in values.iter().enumerate() {
+                if !value.is_zero() {
+                    break 'found Some(Nonzero {
+                        group: Group::Consistency,
+                        row,
+                        index,
+                        value: *value,
+                    });
+                }
+            }
+        }
+        None
     }
-    let values = check_pairs::transition_constraints(weights, pair);
-    first_nonzero(Group::Transition, upper, &values)
 }
 
 // A table that has a row.
@@ -137,7 +135,7 @@ pub struct JudgedTable<'a> {
 }
 
 impl JudgedTable<'_> {
-    // Transition, pair by pair.
+    // Transition, pair by pair. A pair is passed or evaluated as a row is.
     pub fn transition(&self) -> Option<Nonzero>
         ensures { (next : Answer) → followed_by result next ≡ first_in_rows (transition_at self.now.rows.table.now self.now.aux.now self.now.challenges.now) 2 0 (row_count self.now.rows.table.now - 1) next }
     {
@@ -145,6 +143,25 @@ impl JudgedTable<'_> {
         let aux = self.aux;
         let weights = Challenges::from_words(self.challenges);
         let pairs = table.len() / MainRow::WIDTH - 1;
-        (0..pairs).find_map(|upper| pair_transition(weights, upper, RowPair::at(table, aux, upper)))
+        'found: {
+            'pairs: for upper in 0..pairs {
+                let pair = RowPair::at(table, aux, upper);
+                if check_plain::is_plain_pair(weights, pair) {
+                    continue 'pairs;
+                }
+                let values = check_pairs::transition_constraints(weights, pair);
+                for (index, value) in values.iter().enumerate() {
+                    if !value.is_zero() {
+                        break 'found Some(Nonzero {
+                            group: Group::Transition,
+                            row: upper,
+                            index,
+                            value: *value,
+                        });
+                    }
+                }
+            }
+            None
+        }
     }
 }

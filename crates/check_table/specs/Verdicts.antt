@@ -9,7 +9,7 @@ use Rattle.sums.specs.LookupSum.{lookup_sum}
 use Rattle.air.specs.Check.{zero_answer, check_reason, ConstraintsHold}
 use Rattle.air.specs.Claim.{RowTells, DenominatorsNotZero, last_sum}
 use Rattle.check_search.specs.declared.Nonzero.{Nonzero}
-use Rattle.check_search.specs.Finds.{nonzero_answer}
+use Rattle.check_search.specs.Nonzeros.{nonzero_answer}
 
 abbrev pub Verdict : Type 0
 Verdict = Result (Option Nonzero) Refusal

@@ -2,12 +2,14 @@
 #![tactic(auto)]
 
 ghost use Rattle.std.specs.Prelude.{◌≡◌, MatchResult};
+ghost use Rattle.words.specs.Answers.{Answer};
 ghost use Rattle.words.specs.Refusals.{Fine, Declined};
-ghost use Rattle.air.specs.Check.{zero_answer, check_reason, first_nonzero, check_all};
+ghost use Rattle.air.specs.Check.{check_reason, check_all};
 ghost use Rattle.check_search.specs.Finds.{followed_by};
 ghost use Rattle.check_table.specs.Verdicts.{verdict_answer, ZeroIff, Sound, Sums};
+ghost use Rattle.check_table.specs.Groups.{search_group};
 
-use check_search::{JudgedTable, Nonzero, Rows};
+use check_search::{Group, JudgedTable, Nonzero, Rows};
 use table::{AuxRow, Challenges, MainRow};
 use words::Refusal;
 
@@ -41,24 +43,20 @@ fn judge<'a>(
 }
 
 // ---- the search, group by group
-// The first constraint that is not zero: initial, consistency, transition, terminal.
-// As a chain of `or_else` its goal `returns` stays open: of a closure that is taken by value and captures a struct with references in it, as
-// `|| judged.transition()` does, nothing is told. Of one that captures a slice, as `|| check_search::consistency(table)`, all is.
-fn search(judged: &JudgedTable) -> Option<Nonzero>
-    ensures { followed_by result zero_answer ≡ first_nonzero judged.now.rows.table.now judged.now.aux.now judged.now.challenges.now }
+// The first constraint of the group that is not zero.
+fn search_group(group: Group, judged: &JudgedTable) -> Option<Nonzero>
+    ensures { (next : Answer) → followed_by result next ≡ search_group judged.now.rows.table.now judged.now.aux.now judged.now.challenges.now group next }
 {
-    let weights = Challenges::from_words(judged.challenges);
-    let sum = AuxRow::at(judged.aux, 0);
-    if let Some(found) = judged.rows.initial(weights, sum) {
-        return Some(found);
+    match group {
+        Group::Initial => {
+            let weights = Challenges::from_words(judged.challenges);
+            let sum = AuxRow::at(judged.aux, 0);
+            judged.rows.initial(weights, sum)
+        }
+        Group::Consistency => check_search::consistency(judged.rows.table),
+        Group::Transition => judged.transition(),
+        Group::Terminal => judged.rows.terminal(),
     }
-    if let Some(found) = check_search::consistency(judged.rows.table) {
-        return Some(found);
-    }
-    if let Some(found) = judged.transition() {
-        return Some(found);
-    }
-    judged.rows.terminal()
 }
 
 // Evaluates the constraints group by group: initial on row 0, consistency row by row, transition pair by pair, terminal on the last row. The
@@ -71,5 +69,17 @@ pub fn check(table: &[u64], aux: &[u64], challenges: &[u64]) -> Verdict
     ensures sum { Sums table.now aux.now challenges.now result }
 {
     let judged = judge(table, aux, challenges)?;
-    Ok(search(&judged))
+    'found: {
+        'groups: for group in [
+            Group::Initial,
+            Group::Consistency,
+            Group::Transition,
+            Group::Terminal,
+        ] {
+            if let Some(nonzero) = search_group(group, &judged) {
+                break 'found Ok(Some(nonzero));
+            }
+        }
+        Ok(None)
+    }
 }

@@ -278,6 +278,42 @@ fn small_inverse(k: u64) -> BFieldElement
     BFieldElement(SMALL_INVERSES[k as usize])
 }
 
+// The upper 64 bits of u * v, by halves of 32 bits. `high` and `low` share no intermediate value: so the compiler makes one
+// multiplication instruction of the two.
+#[tactic(auto, using(crate::proofs::Words::upper))]
+fn high(u: u64, v: u64) -> u64
+    ensures { result ≡ u * v / 2 ^ 64 }
+{
+    let u0 = u % TWO_POW_32;
+    let u1 = u / TWO_POW_32;
+    let v0 = v % TWO_POW_32;
+    let v1 = v / TWO_POW_32;
+    let w0 = u0 * v0;
+    let t = u1 * v0 + w0 / TWO_POW_32;
+    let w1 = t % TWO_POW_32 + u0 * v1;
+    u1 * v1 + t / TWO_POW_32 + w1 / TWO_POW_32
+}
+
+// The lower 64 bits of u * v: what passes 2^64 is lost.
+#[tactic(auto, using(crate::proofs::Words::lower))]
+fn low(u: u64, v: u64) -> u64
+    ensures { result ≡ u * v % 2 ^ 64 }
+{
+    let u0 = u % TWO_POW_32;
+    let u1 = u / TWO_POW_32;
+    let v0 = v % TWO_POW_32;
+    let v1 = v / TWO_POW_32;
+    let m = (u0 * v1).wrapping_add(u1 * v0);
+    (m % TWO_POW_32 * TWO_POW_32).wrapping_add(u0 * v0)
+}
+
+// The product of two words: its upper and its lower 64 bits.
+fn wide_mul(u: u64, v: u64) -> (u64, u64)
+    ensures { result.0 * 2 ^ 64 + result.1 ≡ u * v }
+{
+    (high(u, v), low(u, v))
+}
+
 // A base element: its content, any number of 64 bits, stands for that number modulo P.
 #[derive(Clone, Copy)]
 pub struct BFieldElement(pub u64);
@@ -455,7 +491,7 @@ impl Mul for BFieldElement {
 
     #[tactic(auto, unfolding(crate::specs::Elements::mul_f))]
     fn mul(self, other: BFieldElement) -> BFieldElement {
-        let (low, high) = self.0.carrying_mul(other.0, 0);
+        let (high, low) = wide_mul(self.0, other.0);
         BFieldElement::fold(low, high)
     }
 }

@@ -44,6 +44,8 @@ pub fn fill(list: &LentList, table: &mut [u64]) -> Result<u64, Refusal>
     if !MainRow::has_shape(table) {
         return Err(Refusal::Shape);
     }
+    // Before the copy is made: what they refuse needs none.
+    list.closed()?;
     let mut counted = Copied::none();
     let height = list.judge_and_gather(&mut counted)?;
     if ((table.len() / MainRow::WIDTH) as u64) < height {

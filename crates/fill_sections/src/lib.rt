@@ -1,12 +1,12 @@
 // Filling the section of one entry. A row's Result is known only after the row below it, so the section's end is reached first.
 #![tactic(auto)]
 
-ghost use Rattle.std.specs.Prelude.{◌≡◌, [], ◌+◌, ◌*◌, ◌≤◌, ◌<◌, length};
+ghost use Rattle.std.specs.Prelude.{◌≡◌, [], ◌+◌, ◌*◌, ◌≤◌, ◌<◌, get_or, length};
 ghost use Rattle.std.proofs.lemmas.List.Edits.{sets};
 ghost use Rattle.isa.specs.Entries.{height};
 ghost use Rattle.table.specs.Columns.{main_width};
 ghost use Rattle.table.specs.Layouts.{row_of};
-ghost use Rattle.fill_sections.specs.Sections.{bits_minus33_inverse, section_row, next_pending, top_result, section, section_words};
+ghost use Rattle.fill_sections.specs.Sections.{bits_minus33_inverse, bits_minus33_inverses, section_row, next_pending, top_result, section, section_words};
 ghost use Rattle.fill_sections.specs.PendingRows.{pending_of, rows_left, section_of};
 
 mod operand;
@@ -54,11 +54,11 @@ static BITS_MINUS_33_INVERSES: [u64; 33] = [
     18446744069414584320,
 ];
 
-// The inverse of Bits − 33, looked up.
-#[tactic(auto, using(crate::proofs::BitsMinus33::stored_inverse), unfolding(crate::proofs::BitsMinus33::stored))]
+// The inverse of Bits − 33, looked up: the number at this place of the table of the definition, which is the inverse.
 pub fn bits_minus_33_inverse(bits: u64) -> BFieldElement
     requires { bits < 33 }
-    ensures { result.0 ≡ bits_minus33_inverse bits }
+    ensures stored { result.0 ≡ get_or bits_minus33_inverses bits 0 }
+    ensures inverse { result.0 ≡ bits_minus33_inverse bits }
 {
     BFieldElement(BITS_MINUS_33_INVERSES[bits as usize])
 }

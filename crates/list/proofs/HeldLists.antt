@@ -1,6 +1,7 @@
 -- What it tells that a list with its holds is judged fine.
 --   held_shaped, held_shape_fine: the shape test finds nothing exactly where the list's does and there is a hold a place.
 --   no_hold, closed: 15 finds nothing exactly where no used place has a hold.
+--   closed_told, closed_refused: 1 and 15 find nothing where neither does; what one of them finds is what the judge finds.
 --   judged_held_list: past shape and holds, what is judged is the list that gets sections; judged_held_places: its places alone, since its shape is right.
 --   held_told, held_fine: the judge finds nothing exactly where the shape is right, no hold is open and the list that gets sections is judged fine.
 -- Assumes nothing.
@@ -14,13 +15,13 @@ use native.Mathlib.Omega.{arith}
 use lib.ListN.{length}
 use borrow.Author.Tests.{eqb-true, eqb-false, eq-eqb, ne_eqb}
 use Rattle.std.specs.Prelude.{Ok, Err}
-use Rattle.words.specs.Refusals.{Fine, Declined, or_else, first_reason}
+use Rattle.words.specs.Refusals.{Judgement, Fine, Declined, or_else, first_reason}
 use Rattle.words.specs.declared.Refusal.{Refusal}
 use Rattle.words.specs.declared.Refusal.TheVariants.{Shape, OpenHold}
 use Rattle.words.proofs.Judgements.{decline_not_true, decline_not_fine, or_next, or_first, or_both, first_fine, first_none}
 use Rattle.list.specs.Lists.{capacity, used, list_shape, judge_list}
 use Rattle.list.specs.Heights.{list_height, judged_list, judged_places}
-use Rattle.list.specs.Holds.{HeldList, hold_at, held_shape, judge_hold, open_hold, section_list, judge_held, judged_held}
+use Rattle.list.specs.Holds.{HeldList, hold_at, held_shape, judge_hold, open_hold, judge_closed, section_list, judge_held, judged_held}
 use Rattle.list.specs.Counted.{counted}
 use Rattle.list.proofs.CountedLists.{counted_shaped}
 use Rattle.list.proofs.JudgedLists.{Shaped, shaped, shape_fine, judged_as_height, judged_as_refused}
@@ -77,6 +78,28 @@ module _ (h : HeldList) where
   unfolding open_hold
   not_closed i b f = open_among 0 (used h.list) i (omega arith) (omega arith) f
 
+  -- ---- 1 and 15
+
+  pub closed_told : judge_closed h ≡ Fine → (held_shape h ≡ Fine) × (open_hold h ≡ Fine)
+  unfolding judge_closed
+  closed_told e = or_both (held_shape h) (open_hold h) e
+
+  pub closed_shape : {k : Refusal} → held_shape h ≡ Declined k → judge_closed h ≡ Declined k
+  unfolding judge_closed
+  closed_shape e = or_first _ e
+
+  pub closed_next : held_shape h ≡ Fine → judge_closed h ≡ open_hold h
+  unfolding judge_closed
+  closed_next e = or_next _ e
+
+  -- the judge asks for them first
+  pub closed_refused : {k : Refusal} → judge_closed h ≡ Declined k → judge_held h ≡ Declined k
+  unfolding judge_closed judge_held
+  closed_refused {k} e = go (held_shape h) e where
+    go : (s : Judgement) → or_else s (open_hold h) ≡ Declined k → or_else s (or_else (open_hold h) (judge_list (section_list h))) ≡ Declined k
+    go Fine e = or_first _ e
+    go (Declined _) e = e
+
   -- ---- the judge
 
   pub held_told : judge_held h ≡ Fine → (held_shape h ≡ Fine) × (open_hold h ≡ Fine) × (judge_list (section_list h) ≡ Fine)
@@ -112,6 +135,14 @@ module _ (h : HeldList) where
     pub judged_held_places : open_hold h ≡ Fine → judged_held h ≡ judged_places false (section_list h)
     unfolding judged_held judge_held section_list judge_list judged_places
     judged_held_places e = rw (shape, e, shape_fine (counted h.list) (counted_shaped h.list (held_shaped shape).list))
+
+  -- by 1 and 15 in one
+  pub judged_held_refused : {k : Refusal} → judge_closed h ≡ Declined k → judged_held h ≡ Err k
+  unfolding judged_held
+  judged_held_refused e = rw (closed_refused e)
+
+  pub judged_held_closed : judge_closed h ≡ Fine → judged_held h ≡ judged_places false (section_list h)
+  judged_held_closed e = let a = closed_told e in judged_held_places a.0 a.1
 
   -- ---- what an answer of `judge_held` tells
 

@@ -31,6 +31,10 @@ judge_hold h i = decline_if (not (eqb (hold_at h i) 0)) OpenHold
 unfoldable pub open_hold : HeldList → Judgement
 open_hold h = first_reason (judge_hold h) 0 (used h.list)
 
+-- 15 "directly after 1"
+unfoldable pub judge_closed : HeldList → Judgement
+judge_closed h = or_else (held_shape h) (open_hold h)
+
 -- the list whose entries get sections and are stored: that of the counted places
 unfoldable pub section_list : HeldList → U32List
 section_list h = counted h.list

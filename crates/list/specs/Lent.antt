@@ -1,7 +1,10 @@
 -- A list as the code lends it, as the list that the definitions speak of.
-use Rattle.std.specs.Prelude.{◌≡◌, ◌*◌, take}
+use Rattle.std.specs.Prelude.{◌≡◌, ◌*◌, take, Result, MatchResult}
+use Rattle.words.specs.Refusals.{Judgement, Fine, Declined}
+use Rattle.words.specs.declared.Refusal.{Refusal}
 use Rattle.isa.specs.Entries.{entry_width}
 use Rattle.list.specs.declared.LentCounts.{LentCounts}
+use Rattle.list.specs.declared.UsedPlaces.{UsedPlaces}
 use Rattle.list.specs.declared.Copied.{Copied}
 use Rattle.list.specs.declared.LentList.{LentList}
 use Rattle.list.specs.declared.LentListMut.{LentListMut}
@@ -10,6 +13,10 @@ use Rattle.list.specs.Holds.{HeldList, held_list}
 
 abbrev pub counts_in : LentCounts → U32List
 counts_in l = u32_list l.sizes l.keys.now l.multiplicities.now
+
+-- the places of a list where there is no reason against it, else the reason
+abbrev pub PlacesUnless : Judgement → U32List → Result UsedPlaces Refusal → Type 0
+PlacesUnless reason l result = MatchResult result (λ places. (counts_in places.list ≡ l) × (reason ≡ Fine)) (λ k. reason ≡ Declined k)
 
 -- places that are copied: as many as it says, from the front of its arrays on
 abbrev pub copied_in : Copied → U32List

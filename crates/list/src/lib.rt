@@ -3,7 +3,7 @@
 // The arrays are words and no arrays of structs: the C interface lends them so.
 #![tactic(auto)]
 
-ghost use Rattle.std.specs.Prelude.{◌≡◌, true, ℕ, ◌+◌, ◌*◌, ◌-◌, ◌/◌, ◌≤◌, ◌<◌, List, [], IfSome, OnOk, length, take, replicate};
+ghost use Rattle.std.specs.Prelude.{◌≡◌, true, false, ℕ, ◌+◌, ◌*◌, ◌-◌, ◌/◌, ◌≤◌, ◌<◌, List, [], IfSome, OnOk, length, take, replicate};
 ghost use Rattle.std.proofs.lemmas.List.Edits.{sets};
 ghost use Rattle.std.specs.Option.{unwrap_or};
 ghost use Rattle.words.specs.Limits.{max_places};
@@ -12,7 +12,7 @@ ghost use Rattle.list.specs.Lists.{u32_list, key_at, entry_at, list_shape, count
 ghost use Rattle.list.specs.Heights.{judged_places, judged_list};
 ghost use Rattle.list.specs.Keys.{same_key, find_from};
 ghost use Rattle.list.specs.Counted.{counted as counted_of};
-ghost use Rattle.list.specs.Holds.{held_shape, open_hold, judged_held, section_list};
+ghost use Rattle.list.specs.Holds.{held_shape, open_hold, judge_closed, judged_held, section_list};
 ghost use Rattle.list.specs.Eights.{EightDiffer, other_word};
 
 use field::BFieldElement;
@@ -247,7 +247,7 @@ impl LentCounts<'_> {
 }
 
 impl UsedPlaces<'_> {
-    ghost use Rattle.list.specs.Lent.{counts_in};
+    ghost use Rattle.list.specs.Lent.{counts_in, copied_in};
 
     // The keys of the used places.
     pub fn used_keys(&self) -> &[u64]
@@ -269,6 +269,15 @@ impl UsedPlaces<'_> {
             height += entry.table_height_contribution();
         }
         Ok(height)
+    }
+
+    // The counted ones are gathered, which get sections, and 2 to 5 are asked of them entry by entry; where there is none, their height.
+    fn judge_counted(&self, counted: &mut Copied) -> Result<u64, Refusal>
+        ensures height { result ≡ judged_places false (counted_of (counts_in self.now.list)) }
+        ensures gathered { copied_in counted.new ≡ counted_of (counts_in self.now.list) }
+    {
+        counted.gather(self);
+        counted.lent().judge_places(false)
     }
 }
 
@@ -316,7 +325,7 @@ impl Copied {
 
 impl<'a> LentList<'a> {
     ghost use Rattle.list.specs.Holds.{held_list};
-    ghost use Rattle.list.specs.Lent.{copied_in, held_in};
+    ghost use Rattle.list.specs.Lent.{counts_in, copied_in, held_in, PlacesUnless};
 
     // Of its parts.
     pub fn new(
@@ -367,23 +376,32 @@ impl<'a> LentList<'a> {
         }
     }
 
+    // Reasons 1 and 15; where there is none, the used places. Neither needs a copy: who makes one asks for these first.
+    pub fn closed(&self) -> Result<UsedPlaces<'a>, Refusal>
+        ensures { PlacesUnless (judge_closed (held_in self.now)) (counts_in self.now.list) result }
+    {
+        self.held_shape()?;
+        self.open_hold()?;
+        let list = self.list;
+        Ok(UsedPlaces { list })
+    }
+
     // Reasons 1 and 15; then the counted places are gathered, which get sections, and 2 to 5 are asked of them entry by entry; where there is none, their height.
     pub fn judge_and_gather(&self, counted: &mut Copied) -> Result<u64, Refusal>
         ensures height { result ≡ judged_held (held_in self.now) }
         ensures gathered { OnOk result (copied_in counted.new ≡ section_list (held_in self.now)) }
     {
-        self.held_shape()?;
-        self.open_hold()?;
-        counted.gather(&UsedPlaces { list: self.list });
-        counted.lent().judge_places(false)
+        let places = self.closed()?;
+        places.judge_counted(counted)
     }
 
     // The same for who needs the height alone.
     pub fn judge_held(&self) -> Result<u64, Refusal>
         ensures { result ≡ judged_held (held_in self.now) }
     {
+        let places = self.closed()?;
         let mut counted = Copied::none();
-        self.judge_and_gather(&mut counted)
+        places.judge_counted(&mut counted)
     }
 }
 

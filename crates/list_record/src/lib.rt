@@ -143,7 +143,48 @@ fn record_with(
     store(list, place, count, hold)
 }
 
-// The first equal key gains one; else the key is appended with 1. The answer is its place.
+// The first equal key gains one; else the key is appended with 1. The answer is its place, and the sizes come back beside it.
+pub fn record_u32_table_entry_by_value(
+    sizes: Sizes,
+    keys: &mut [u64],
+    multiplicities: &mut [u64],
+    holds: &mut [u64],
+    entry: U32TableEntry,
+) -> (Result<usize, Refusal>, Sizes)
+    ensures { Leaves (record_all (held_list sizes keys.old multiplicities.old holds.old) entry) (recorded_answer result.0) (held_list result.1 keys.new multiplicities.new holds.new) }
+{
+    let mut list = LentListMut {
+        sizes,
+        keys,
+        multiplicities,
+        holds,
+    };
+    let answer = record_with(&mut list, entry, 1, 0);
+    (answer, list.sizes)
+}
+
+// The same recording, with the sizes lent.
+pub fn record_sizes_lent(
+    sizes: &mut Sizes,
+    keys: &mut [u64],
+    multiplicities: &mut [u64],
+    holds: &mut [u64],
+    entry: U32TableEntry,
+) -> Result<usize, Refusal>
+    ensures { Leaves (record_all (held_list sizes.old keys.old multiplicities.old holds.old) entry) (recorded_answer result) (held_list sizes.new keys.new multiplicities.new holds.new) }
+{
+    let (answer, after) = record_u32_table_entry_by_value(
+        *sizes,
+        keys,
+        multiplicities,
+        holds,
+        entry,
+    );
+    *sizes = after;
+    answer
+}
+
+// The same recording in a list lent as one: its sizes are lent on.
 pub fn record_u32_table_entry(
     list: &mut LentListMut,
     entry: U32TableEntry,
@@ -151,15 +192,62 @@ pub fn record_u32_table_entry(
     ensures outcome { Leaves (record_all (held_in_mut list.old) entry) (recorded_answer result) (held_in_mut list.new) }
     ensures same_arrays { SameArrays list.old list.new }
 {
-    record_with(list, entry, 1, 0)
+    record_sizes_lent(
+        &mut list.sizes,
+        list.keys,
+        list.multiplicities,
+        list.holds,
+        entry,
+    )
 }
 
-// The first equal key gains one hold; else the key is appended with multiplicity 0 and one hold. The answer is its place.
+// The first equal key gains one hold; else the key is appended with multiplicity 0 and one hold. The answer is its place, and the sizes come back beside it.
+pub fn hold_u32_table_entry_by_value(
+    sizes: Sizes,
+    keys: &mut [u64],
+    multiplicities: &mut [u64],
+    holds: &mut [u64],
+    entry: U32TableEntry,
+) -> (Result<usize, Refusal>, Sizes)
+    ensures { Leaves (hold_all (held_list sizes keys.old multiplicities.old holds.old) entry) (recorded_answer result.0) (held_list result.1 keys.new multiplicities.new holds.new) }
+{
+    let mut list = LentListMut {
+        sizes,
+        keys,
+        multiplicities,
+        holds,
+    };
+    let answer = record_with(&mut list, entry, 0, 1);
+    (answer, list.sizes)
+}
+
+// The same hold, with the sizes lent.
+pub fn hold_sizes_lent(
+    sizes: &mut Sizes,
+    keys: &mut [u64],
+    multiplicities: &mut [u64],
+    holds: &mut [u64],
+    entry: U32TableEntry,
+) -> Result<usize, Refusal>
+    ensures { Leaves (hold_all (held_list sizes.old keys.old multiplicities.old holds.old) entry) (recorded_answer result) (held_list sizes.new keys.new multiplicities.new holds.new) }
+{
+    let (answer, after) = hold_u32_table_entry_by_value(*sizes, keys, multiplicities, holds, entry);
+    *sizes = after;
+    answer
+}
+
+// The same hold in a list lent as one: its sizes are lent on.
 pub fn hold_u32_table_entry(list: &mut LentListMut, entry: U32TableEntry) -> Result<usize, Refusal>
     ensures outcome { Leaves (hold_all (held_in_mut list.old) entry) (recorded_answer result) (held_in_mut list.new) }
     ensures same_arrays { SameArrays list.old list.new }
 {
-    record_with(list, entry, 0, 1)
+    hold_sizes_lent(
+        &mut list.sizes,
+        list.keys,
+        list.multiplicities,
+        list.holds,
+        entry,
+    )
 }
 
 // Reasons 1 and 16 against ending a hold at a position.

@@ -14,6 +14,7 @@ ghost use Rattle.list_shared.specs.Lent.{counts_in, shared, SameCounts};
 
 use isa::U32TableEntry;
 use list::LentListMut;
+use list_record::{hold_u32_table_entry, record_u32_table_entry};
 use list_replay::Stopped;
 use words::Refusal;
 
@@ -79,11 +80,7 @@ pub fn record_shared(
     ensures same_arrays { SameArrays list.old list.new }
     ensures same_counts { SameCounts other.old other.new }
 {
-    call_beside(
-        list,
-        other,
-        |list| list_record::record_u32_table_entry(list, entry),
-    )
+    call_beside(list, other, |list| record_u32_table_entry(list, entry))
 }
 
 // A hold by one of the two.
@@ -97,11 +94,7 @@ pub fn hold_shared(
     ensures same_arrays { SameArrays list.old list.new }
     ensures same_counts { SameCounts other.old other.new }
 {
-    call_beside(
-        list,
-        other,
-        |list| list_record::hold_u32_table_entry(list, entry),
-    )
+    call_beside(list, other, |list| hold_u32_table_entry(list, entry))
 }
 
 // A replay by one of the two. One that stops has brought places into use as well.

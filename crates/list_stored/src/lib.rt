@@ -112,6 +112,8 @@ fn store(places: &UsedPlaces, height: u64, out: &mut [u8]) -> Result<usize, Refu
 pub fn write_list(list: &LentList, out: &mut [u8]) -> Result<usize, Refusal>
     ensures { Leaves (write_all (held_in list.now) out.old) (written_answer result) out.new }
 {
+    // Before the copy is made: what they refuse needs none.
+    list.closed()?;
     let mut counted = Copied::none();
     let height = list.judge_and_gather(&mut counted)?;
     store(&counted.lent(), height, out)

@@ -10,7 +10,7 @@ ghost use Rattle.words.specs.Refusals.{decline_if};
 ghost use Rattle.words.specs.declared.Refusal.TheVariants.{Shape};
 ghost use Rattle.list.specs.Lists.{count_full};
 ghost use Rattle.lookup.specs.ByteLookup.{byte_lookup, byte_output, NoneShared, high_byte, low_byte, cascade_output};
-ghost use Rattle.lookup.specs.Cascades.{cascade_shape, bytes_full, find_from, look_up_all};
+ghost use Rattle.lookup.specs.Cascades.{lookups, cascade_shape, bytes_full, find_from, look_up_all};
 ghost use Rattle.lookup.specs.Lent.{cascade_in, lookups_in, SameArrays};
 ghost use Rattle.lookup.specs.Placing.{place_of, stored_at, Fits};
 ghost use Rattle.lookup.specs.Recordings.{occurs};
@@ -202,13 +202,68 @@ impl LentLookupsMut<'_> {
         }
     }
 
-    // A known value gains one; a new one is appended with 1, and its two bytes gain one each.
+    // A known value gains one; a new one is appended with 1, and its two bytes gain one each. The sizes are lent on.
     pub fn increase_lookup_multiplicities_for_limb(&mut self, limb: u16) -> Result<(), Refusal>
         ensures outcome { Leaves (look_up_all (lookups_in self.old) limb) (completed_answer result) (lookups_in self.new) }
         ensures same_arrays { SameArrays self.old self.new }
     {
-        let place = self.find_limb(limb)?;
-        self.store_limb(limb, place);
-        Ok(())
+        look_up_sizes_lent(
+            &mut self.sizes,
+            self.keys,
+            self.multiplicities,
+            self.byte_multiplicities,
+            limb,
+        )
     }
+}
+
+// Where a value goes is found, and it is stored there.
+fn find_and_store(tables: &mut LentLookupsMut, limb: u16) -> Result<(), Refusal>
+    ensures outcome { Leaves (look_up_all (lookups_in tables.old) limb) (completed_answer result) (lookups_in tables.new) }
+    ensures same_arrays { SameArrays tables.old tables.new }
+{
+    let place = tables.find_limb(limb)?;
+    tables.store_limb(limb, place);
+    Ok(())
+}
+
+// The recording; the sizes come back beside the answer.
+pub fn increase_lookup_multiplicities_for_limb_by_value(
+    sizes: Sizes,
+    keys: &mut [u16],
+    multiplicities: &mut [u64],
+    byte_multiplicities: &mut [u64],
+    limb: u16,
+) -> (Result<(), Refusal>, Sizes)
+    ensures { Leaves (look_up_all (lookups sizes keys.old multiplicities.old byte_multiplicities.old) limb) (completed_answer result.0) (lookups result.1 keys.new multiplicities.new byte_multiplicities.new) }
+{
+    let mut tables = LentLookupsMut {
+        sizes,
+        keys,
+        multiplicities,
+        byte_multiplicities,
+    };
+    let answer = find_and_store(&mut tables, limb);
+    (answer, tables.sizes)
+}
+
+// The same recording, with the sizes lent.
+pub fn look_up_sizes_lent(
+    sizes: &mut Sizes,
+    keys: &mut [u16],
+    multiplicities: &mut [u64],
+    byte_multiplicities: &mut [u64],
+    limb: u16,
+) -> Result<(), Refusal>
+    ensures { Leaves (look_up_all (lookups sizes.old keys.old multiplicities.old byte_multiplicities.old) limb) (completed_answer result) (lookups sizes.new keys.new multiplicities.new byte_multiplicities.new) }
+{
+    let (answer, after) = increase_lookup_multiplicities_for_limb_by_value(
+        *sizes,
+        keys,
+        multiplicities,
+        byte_multiplicities,
+        limb,
+    );
+    *sizes = after;
+    answer
 }

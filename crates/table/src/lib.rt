@@ -14,12 +14,21 @@ use field::BFieldElement;
 use words::MAX_ROWS;
 use xfield::XFieldElement;
 
-// Every word is below p. `fold` with `&` takes half the time of `all`, which may leave at each word.
+// Every word is below p: ten at a time, up to the first ten with a word that is not, or to the last ten; then the few that are left. What stands behind
+// such a ten is not read.
 pub fn all_reduced(words: &[u64]) -> bool
     ensures { result ≡ all_reduced words.now }
 {
-    words
-        .iter()
+    let mut tens = words.chunks_exact(MainRow::WIDTH);
+    let rest = tens.remainder();
+    tens.all(|ten| are_ten_reduced(ten)) && are_ten_reduced(rest)
+}
+
+// Every word of ten, or of fewer, is below p. `fold` with `&` takes half the time of `all`, which may leave at each word.
+fn are_ten_reduced(ten: &[u64]) -> bool
+    ensures { result ≡ all_reduced ten.now }
+{
+    ten.iter()
         .fold(true, |all, word| all & (*word < BFieldElement::P))
 }
 

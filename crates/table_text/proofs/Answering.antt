@@ -15,7 +15,7 @@ use Rattle.sums.specs.RunningSum.{element_words}
 use Rattle.fill.specs.Extending.{extend_all}
 use Rattle.extend.specs.Extensions.{extended_answer}
 use Rattle.check_search.specs.declared.Nonzero.{Nonzero}
-use Rattle.check_search.specs.Finds.{group_number, nonzero_answer}
+use Rattle.check_search.specs.Nonzeros.{group_number, nonzero_answer}
 use Rattle.check_table.specs.Verdicts.{Verdict, verdict_answer}
 use Rattle.text.specs.Lines.{verdict_line, refused_line, field_line}
 use Rattle.text.specs.declared.Text.{Text}

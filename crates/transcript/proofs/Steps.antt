@@ -28,7 +28,7 @@ use Rattle.list_record.specs.Plan.{padded_height, plan_all, planned_answer}
 use Rattle.table.specs.Columns.{main_width, aux_width}
 use Rattle.air.specs.Check.{nonzero, check_all}
 use Rattle.check_search.specs.declared.Nonzero.{Nonzero}
-use Rattle.check_search.specs.Finds.{group_number}
+use Rattle.check_search.specs.Nonzeros.{group_number}
 use Rattle.check_table.specs.Verdicts.{Verdict, verdict_answer}
 use Rattle.fill.specs.Filling.{fill_all}
 use Rattle.fill.specs.Padding.{pad_all}

@@ -7,7 +7,7 @@ ghost use Rattle.xfield.specs.XFieldElements.{ext_of};
 ghost use Rattle.list.specs.Lent.{held_in};
 ghost use Rattle.sums.specs.RunningSum.{element_words};
 ghost use Rattle.table.specs.Columns.{main_width};
-ghost use Rattle.check_search.specs.Finds.{nonzero_answer};
+ghost use Rattle.check_search.specs.Nonzeros.{nonzero_answer};
 ghost use Rattle.check_table.specs.Verdicts.{verdict_answer};
 ghost use Rattle.text.specs.Lines.{verdict_line};
 ghost use Rattle.text.specs.Put.{HasRoom, Adds};

@@ -57,29 +57,31 @@ impl Iterator for Numbers<'_> {
     ghost remaining = { λ s. at_most (length s.rest.now) };
 
     fn next(&mut self) -> Option<u64> {
-        let start = self.rest.iter().position(|b| b.is_ascii_digit())?;
-        let (first, after) = self.rest[start..].split_first()?;
-        let end = after
-            .iter()
-            .position(|b| !b.is_ascii_digit())
-            .unwrap_or(after.len());
-        let (digits, rest) = after.split_at(end);
-        self.rest = rest;
-        Some(
-            digits
-                .iter()
-                .fold(with_digit(0, *first), |n, b| with_digit(n, *b)),
-        )
+        let text = self.rest;
+        let start = text.iter().position(|b| b.is_ascii_digit())?;
+        let mut end = start + 1;
+        let mut n = with_digit(0, text[start]);
+        // By index: digits that are found first, and folded then, are gone through twice.
+        while end < text.len() && text[end].is_ascii_digit() {
+            n = with_digit(n, text[end]);
+            end += 1;
+        }
+        self.rest = &text[end..];
+        Some(n)
     }
 }
 
 impl Numbers<'_> {
-    // The next number, or 0 where there is none left.
+    // The next number, or 0 where there is none left: what is no number is passed too then.
     pub fn number(&mut self) -> u64
         ensures bound { length self.new.rest.now ≤ length self.old.rest.now }
         ensures read { 0 < result → length self.new.rest.now < length self.old.rest.now }
     {
-        self.next().unwrap_or(0)
+        let n = self.next();
+        if n.is_none() {
+            self.rest = &[];
+        }
+        n.unwrap_or(0)
     }
 
     // The next numbers in an array: `count` of them, or as many as it has places for. One that does not fit the items' type is 0.
@@ -98,6 +100,18 @@ impl Numbers<'_> {
         items
     }
 
+    // The same of bytes: of a number past 255 its lowest eight bits.
+    pub fn bytes<const N: usize>(&mut self, count: u64) -> ArrayVec<u8, N>
+        ensures { array_vec_len result ≡ min count N }
+    {
+        let mut bytes = ArrayVec::new();
+        let places = within(count, N);
+        for _ in 0..places {
+            let _ = bytes.try_push((self.number() & 0xff) as u8);
+        }
+        bytes
+    }
+
     // A count, and then so many numbers, or as many as the array has places for.
     pub fn counted_array<T: TryFrom<u64> + Default + Drop, const N: usize>(
         &mut self,
@@ -109,18 +123,42 @@ impl Numbers<'_> {
         self.array(count)
     }
 
-    // Whether words are those that come next. A line has no more than 1,024 in a row, and more than that differ.
+    // A count, and then so many numbers, put at the first places, or as many as there are places for. Answers how many. Where an array is so large that its
+    // copies tell, this is quicker than `counted_array`.
+    pub fn counted(&mut self, places: &mut [u64]) -> usize
+        ensures { IsPrefixLen result places.new }
+    {
+        let count = within(self.number(), places.len());
+        self.fill(part_mut(places, count));
+        count
+    }
+
+    // The next numbers, one at each place.
+    fn fill(&mut self, places: &mut [u64])
+        ensures { length places.new ≡ length places.old }
+    {
+        for place in places {
+            *place = self.number();
+        }
+    }
+
+    // Whether words are those that come next, which are passed also where they differ. A line has no more than 1,024 in a row, and more than that differ.
+    // Room for so many is made whatever is compared: for a few words `array` is quicker.
     pub fn words_are(&mut self, words: &[u64]) -> bool
         ensures { (wanted : List ℕ) × (length wanted ≡ min (length words.now) 1024) × (result ≡ same_first_of nat_eq (length words.now) words.now wanted) }
     {
-        let wanted = self.array::<u64, 1024>(words.len() as u64);
-        same_first(words, wanted.as_slice(), words.len())
+        let mut room = [0; 1024];
+        let wanted = part_mut(&mut room, words.len());
+        self.fill(wanted);
+        same_first(words, wanted, words.len())
     }
 
     // Whether an answer is the one that comes next: document 01's number, and the N words of its value, zeros where there is none.
     pub fn answer_is<const N: usize>(&mut self, answer: Result<[u64; N], Refusal>) -> bool {
         let number = self.number();
-        number == number_of(&answer) && self.words_are(&answer.unwrap_or([0; N]))
+        let mut wanted = [0; N];
+        self.fill(&mut wanted);
+        number == number_of(&answer) && same_first(&answer.unwrap_or([0; N]), &wanted, N)
     }
 }
 
@@ -133,11 +171,13 @@ pub fn number_of<T>(answer: &Result<T, Refusal>) -> u64
     answer.as_ref().err().map_or(0, |reason| u64::from(*reason))
 }
 
-// A number with one digit more; a number that passes 2^64 stays what it is.
+// A number with one digit more; a number whose tenfold passes 2^64 stays what it is.
 fn with_digit(n: u64, digit: u8) -> u64 {
-    n.checked_mul(10)
-        .and_then(|n| n.checked_add(u64::from(digit.saturating_sub(b'0'))))
-        .unwrap_or(n)
+    if n <= u64::MAX / 10 {
+        (n * 10).wrapping_add(u64::from(digit.wrapping_sub(b'0')))
+    } else {
+        n
+    }
 }
 
 // Whether the first `count` items of both are the same; an item past an end differs.
@@ -216,6 +256,14 @@ fn change_line(line: &mut [u8]) {
             b'9' => b'8',
             other => other,
         };
+    }
+}
+
+// The same of each line of a text; what follows the last line that ends stays.
+pub fn change_lines(text: &mut [u8]) {
+    let whole = whole_lines(text);
+    for line in part_mut(text, whole).split_mut(|b| *b == b'\n') {
+        change_line(line);
     }
 }
 
@@ -309,22 +357,40 @@ pub struct Run {
     pub left: usize,
 }
 
-// Each program prints its lines itself: what stands between the counts and the changed counts, and which are printed, differs from one to the next.
-impl Run {
-    // Runs each line of a text as it is, and changed.
-    fn lines<F: Fn(Numbers<'_>, &mut Counts)>(&mut self, text: &mut [u8], run: &F)
-        requires { F.IsAlwaysCallable run.now }
-    {
-        for line in text.split_mut(|b| *b == b'\n') {
-            run(Numbers { rest: line }, &mut self.counts);
-            change_line(line);
-            run(Numbers { rest: line }, &mut self.changed);
+// Runs the calls of a text, at most a hundred thousand of them, up to one that is none. A call is a line, but nothing asks for that: its numbers come
+// one after the other, on one line or on two.
+fn run_calls<F: Fn(&mut Numbers<'_>, &mut Counts) -> bool>(
+    text: &[u8],
+    counts: &mut Counts,
+    run: &F,
+)
+    requires { F.IsAlwaysCallable run.now }
+{
+    let mut numbers = Numbers { rest: text };
+    for _ in 0..100000 {
+        if !run(&mut numbers, counts) {
+            break;
         }
     }
 }
 
-// Runs the lines of an input, a part after the other.
-pub fn run_input<R: Read + Drop, F: Fn(Numbers<'_>, &mut Counts) + Drop>(reader: R, run: F) -> Run
+// Each program prints its lines itself: what stands between the counts and the changed counts, and which are printed, differs from one to the next.
+impl Run {
+    // Runs the lines of a text as they are, and changed.
+    fn lines<F: Fn(&mut Numbers<'_>, &mut Counts) -> bool>(&mut self, text: &mut [u8], run: &F)
+        requires { F.IsAlwaysCallable run.now }
+    {
+        run_calls(text, &mut self.counts, run);
+        change_lines(text);
+        run_calls(text, &mut self.changed, run);
+    }
+}
+
+// Runs the lines of an input, a part after the other. The function that is passed runs the call that comes next, and says whether there was one.
+pub fn run_input<R: Read + Drop, F: Fn(&mut Numbers<'_>, &mut Counts) -> bool + Drop>(
+    reader: R,
+    run: F,
+) -> Run
     requires { F.IsAlwaysCallable run }
 {
     let mut found = Run {

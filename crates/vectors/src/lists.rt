@@ -78,10 +78,16 @@ impl<const K: usize, const M: usize> LentList<K, M> {
         ensures { result ≡ true → same_first nat_eq (array_vec_len self.now.holds) self.now.holds.items (replicate (min (array_vec_len self.now.holds) M) 0) ≡ true }
     {
         let sizes = take_sizes(numbers);
+        let keys = numbers.array::<u64, K>(self.keys.len() as u64);
+        let multiplicities = numbers.array::<u64, M>(self.multiplicities.len() as u64);
         let unheld = zeros::<M>(self.holds.len());
         sizes == self.sizes
-            && numbers.words_are(&self.keys)
-            && numbers.words_are(&self.multiplicities)
+            && same_first(&self.keys, &keys, self.keys.len())
+            && same_first(
+                &self.multiplicities,
+                &multiplicities,
+                self.multiplicities.len(),
+            )
             && same_first(&self.holds, &unheld, self.holds.len())
     }
 

@@ -6,7 +6,7 @@
 use check_search::Nonzero;
 use check_table::Verdict;
 use std::fmt;
-use vectors::{Counts, Numbers, number_of};
+use vectors::{Counts, Numbers, number_of, part};
 
 // What a table is found.
 #[derive(Clone, Copy)]
@@ -46,15 +46,23 @@ fn words_of(found: Option<Nonzero>) -> [u64; 7] {
     found.map_or([0; 7], Nonzero::words)
 }
 
-// A line: table, aux, challenges, and of the verdict that is wanted document 01's number and seven words; it begins with a 1.
-fn run_line(mut numbers: Numbers<'_>, counts: &mut Counts) {
+// Runs the call that comes next, and answers whether there is one: table, aux, challenges, and of the verdict that is wanted document 01's number and
+// seven words; it begins with a 1.
+fn run_call(numbers: &mut Numbers<'_>, counts: &mut Counts) -> bool {
     if numbers.number() != 1 {
-        return;
+        return false;
     }
-    let table = numbers.counted_array::<u64, 1024>();
-    let aux = numbers.counted_array::<u64, 512>();
-    let challenges = numbers.counted_array::<u64, 32>();
-    let verdict = check_table::check(&table, &aux, &challenges);
+    let mut table = [0; 1024];
+    let mut aux = [0; 512];
+    let mut challenges = [0; 32];
+    let rows = numbers.counted(&mut table);
+    let sums = numbers.counted(&mut aux);
+    let weights = numbers.counted(&mut challenges);
+    let verdict = check_table::check(
+        part(&table, rows),
+        part(&aux, sums),
+        part(&challenges, weights),
+    );
     let answer = verdict.map(words_of);
     let same = numbers.answer_is(answer);
     counts.tally(Found::from(verdict) as usize, number_of(&answer), same);
@@ -62,6 +70,7 @@ fn run_line(mut numbers: Numbers<'_>, counts: &mut Counts) {
         let kind = FIRST_GROUP + nonzero.group as usize;
         counts.tally(kind, nonzero.index as u64, true);
     }
+    true
 }
 
 // How many constraints were the first nonzero one of some table.
@@ -71,7 +80,7 @@ fn first_constraints(counts: &Counts) -> usize {
 }
 
 fn main(rt: HostRuntime) {
-    let run = vectors::run_input(rt.stdin(), run_line);
+    let run = vectors::run_input(rt.stdin(), run_call);
     let kinds = [Found::Zero, Found::Nonzero, Found::Refused];
     for kind in kinds {
         run.counts.print(&rt, kind, kind as usize);

@@ -3,7 +3,7 @@
 #![tactic(auto)]
 
 use field::BFieldElement;
-use vectors::{Counts, Numbers};
+use vectors::{Counts, Numbers, change_lines, part_mut, same_first};
 use xfield::XFieldElement;
 
 // The calls of base elements, in the order of their wanted words in a line. A call is counted at its place here.
@@ -33,7 +33,7 @@ static EXTENSION: [&str; 9] = [
 ];
 
 // A line of base elements: a b, then new value add sub neg mul inverse is_zero equals.
-fn base(mut numbers: Numbers<'_>, counts: &mut Counts) {
+fn base(numbers: &mut Numbers<'_>, counts: &mut Counts) {
     let a = BFieldElement(numbers.number());
     let b = BFieldElement(numbers.number());
     let got = [
@@ -48,7 +48,7 @@ fn base(mut numbers: Numbers<'_>, counts: &mut Counts) {
         u64::from(a == b),
     ];
     for (call, word) in got.iter().enumerate() {
-        counts.tally(call, 0, numbers.words_are(&[*word]));
+        counts.tally(call, 0, same_first(&[*word], &[numbers.number()], 1));
     }
 }
 
@@ -61,9 +61,9 @@ fn take_element(numbers: &mut Numbers<'_>) -> XFieldElement {
 }
 
 // A line of extension elements: a b, then new, from a base element, add sub mul scale inverse is_zero equals.
-fn extension(mut numbers: Numbers<'_>, counts: &mut Counts) {
-    let a = take_element(&mut numbers);
-    let b = take_element(&mut numbers);
+fn extension(numbers: &mut Numbers<'_>, counts: &mut Counts) {
+    let a = take_element(numbers);
+    let b = take_element(numbers);
     let got = [
         XFieldElement::new(a.0.0, a.1.0, a.2.0),
         XFieldElement::from(a.0),
@@ -74,34 +74,56 @@ fn extension(mut numbers: Numbers<'_>, counts: &mut Counts) {
         a.inverse_or_zero(),
     ];
     for (i, element) in got.iter().enumerate() {
-        counts.tally(BASE.len() + i, 0, numbers.words_are(&element.words()));
+        let wanted = take_element(numbers).words();
+        let same = same_first(&element.words(), &wanted, wanted.len());
+        counts.tally(BASE.len() + i, 0, same);
     }
     let tests = [a.is_zero(), a == b];
     for (i, test) in tests.iter().enumerate() {
-        let same = numbers.words_are(&[u64::from(*test)]);
+        let same = same_first(&[u64::from(*test)], &[numbers.number()], 1);
         counts.tally(BASE.len() + got.len() + i, 0, same);
     }
 }
 
-// A line begins with the number of its kind, 1 or 2. The two numbers stand here alone: an enum would name them once more.
-fn run_line(mut numbers: Numbers<'_>, counts: &mut Counts) {
+// Runs the call that comes next, and answers whether there is one. It begins with the number of its kind, 1 or 2. The two numbers stand here alone: an
+// enum would name them once more.
+fn run_call(numbers: &mut Numbers<'_>, counts: &mut Counts) -> bool {
     match numbers.number() {
         1 => base(numbers, counts),
         2 => extension(numbers, counts),
-        _ => {}
+        _ => return false,
     }
+    true
+}
+
+// Runs the calls of a text, at most a hundred thousand of them.
+fn run(text: &[u8]) -> Counts {
+    let mut counts = Counts::new();
+    let mut numbers = Numbers { rest: text };
+    for _ in 0..100000 {
+        if !run_call(&mut numbers, &mut counts) {
+            break;
+        }
+    }
+    counts
 }
 
 fn main(rt: HostRuntime) {
-    let found = vectors::run_input(rt.stdin(), run_line);
+    // All at once, and not line by line: a last line that does not end is run too. What is past the buffer is not read.
+    let mut buffer = [0; 131072];
+    let n = vectors::read_full(&mut rt.stdin(), &mut buffer);
+    let text = part_mut(&mut buffer, n);
+    let counts = run(text);
+    change_lines(text);
+    let changed = run(text);
     for (call, name) in BASE.iter().chain(&EXTENSION).enumerate() {
-        found.counts.print(&rt, name, call);
+        counts.print(&rt, name, call);
     }
     // The last word of a line is that of its last call.
     for (calls, first) in [(&BASE, 0), (&EXTENSION, BASE.len())] {
         let last = calls.len() - 1;
         let _ = print!(rt; "with the last word changed, ");
-        found.changed.print(&rt, calls[last], first + last);
+        changed.print(&rt, calls[last], first + last);
     }
     let x = XFieldElement::new(0, 1, 0);
     let [a, b, c] = (x * x * x).words();

@@ -57,57 +57,63 @@ fn record_in<const K: usize, const M: usize>(
     answer.map(word_of)
 }
 
-fn record(mut numbers: Numbers<'_>, counts: &mut Counts) {
-    let mut list = LineList::take(&mut numbers);
-    let answer = record_in(&mut list, take_entry(&mut numbers));
-    let same = numbers.answer_is(answer) && list.is_next(&mut numbers);
+fn record(numbers: &mut Numbers<'_>, counts: &mut Counts) {
+    let mut list = LineList::take(numbers);
+    let answer = record_in(&mut list, take_entry(numbers));
+    let is_wanted = numbers.answer_is(answer);
+    let same = list.is_next(numbers) && is_wanted;
     counts.tally(Call::Record as usize, number_of(&answer), same);
 }
 
-fn compare(mut numbers: Numbers<'_>, counts: &mut Counts) {
-    let left = take_entry(&mut numbers);
-    let right = take_entry(&mut numbers);
+fn compare(numbers: &mut Numbers<'_>, counts: &mut Counts) {
+    let left = take_entry(numbers);
+    let right = take_entry(numbers);
     let same = order_number(left.compare(right)) == numbers.number();
     counts.tally(Call::Compare as usize, 0, same);
 }
 
-fn plan(mut numbers: Numbers<'_>, counts: &mut Counts) {
-    let list = LineList::take(&mut numbers);
+fn plan(numbers: &mut Numbers<'_>, counts: &mut Counts) {
+    let list = LineList::take(numbers);
     let answer = list_record::plan(&list.lend()).map(Heights::words);
     let same = numbers.answer_is(answer);
     counts.tally(Call::Plan as usize, number_of(&answer), same);
 }
 
-fn read(mut numbers: Numbers<'_>, counts: &mut Counts) {
-    let mut list = LineList::take(&mut numbers);
-    let bytes = numbers.counted_array::<u8, 512>();
+fn read(numbers: &mut Numbers<'_>, counts: &mut Counts) {
+    let mut list = LineList::take(numbers);
+    let count = numbers.number();
+    let bytes = numbers.bytes::<512>(count);
     let mut lent = list.lend_mut();
     let answer = list_stored::read_list(&bytes, &mut lent).map(word_of);
     list.sizes = lent.sizes;
-    let same = numbers.answer_is(answer) && list.is_next(&mut numbers);
+    let is_wanted = numbers.answer_is(answer);
+    let same = list.is_next(numbers) && is_wanted;
     counts.tally(Call::Read as usize, number_of(&answer), same);
 }
 
-fn write(mut numbers: Numbers<'_>, counts: &mut Counts) {
-    let list = LineList::take(&mut numbers);
-    let mut bytes = numbers.counted_array::<u8, 512>();
+fn write(numbers: &mut Numbers<'_>, counts: &mut Counts) {
+    let list = LineList::take(numbers);
+    let count = numbers.number();
+    let mut bytes = numbers.bytes::<512>(count);
     let answer = list_stored::write_list(&list.lend(), &mut bytes).map(word_of);
     let is_wanted = numbers.answer_is(answer);
-    let wanted = numbers.array::<u8, 512>(bytes.len() as u64);
+    let wanted = numbers.bytes::<512>(bytes.len() as u64);
     let same = is_wanted && same_first(&bytes, &wanted, bytes.len());
     counts.tally(Call::Write as usize, number_of(&answer), same);
 }
 
+// Runs the call that comes next, and answers whether there is one.
 // By number: a `TryFrom<u64>` for `Call` would have five arms with these numbers, and here would be a match with five more.
-fn run_line(mut numbers: Numbers<'_>, counts: &mut Counts) {
+fn run_call(numbers: &mut Numbers<'_>, counts: &mut Counts) -> bool {
     match numbers.number() {
         1 => record(numbers, counts),
         2 => compare(numbers, counts),
         3 => plan(numbers, counts),
         4 => read(numbers, counts),
         5 => write(numbers, counts),
-        _ => {}
+        _ => return false,
     }
+    true
 }
 
 // ---- 2,048 places
@@ -144,7 +150,7 @@ fn too_many_places(counts: &mut Counts) {
 
 // ---- all lines
 fn main(rt: HostRuntime) {
-    let mut found = vectors::run_input(rt.stdin(), run_line);
+    let mut found = vectors::run_input(rt.stdin(), run_call);
     places(&mut found.counts);
     too_many_places(&mut found.counts);
     let calls = [

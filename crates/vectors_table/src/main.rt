@@ -5,7 +5,7 @@
 
 use check_table::Verdict;
 use std::fmt;
-use vectors::{Counts, LineList, Numbers, number_of};
+use vectors::{Counts, LineList, Numbers, number_of, part, part_mut};
 use xfield::XFieldElement;
 
 // The calls; a line begins with the number of its call.
@@ -39,56 +39,82 @@ fn ran(verdict: Verdict) -> u64 {
 
 // ---- the calls
 // A list, a table; number and height; the table after it.
-fn fill(mut numbers: Numbers<'_>, counts: &mut Counts) {
-    let list = LineList::take(&mut numbers);
-    let mut table = numbers.counted_array::<u64, 1024>();
-    let answer = fill::fill(&list.lend(), &mut table).map(|height| [height]);
-    let same = numbers.answer_is(answer) && numbers.words_are(&table);
+fn fill(numbers: &mut Numbers<'_>, counts: &mut Counts) {
+    let list = LineList::take(numbers);
+    let mut table = [0; 1024];
+    let rows = numbers.counted(&mut table);
+    let answer = fill::fill(&list.lend(), part_mut(&mut table, rows)).map(|height| [height]);
+    let is_wanted = numbers.answer_is(answer);
+    let same = numbers.words_are(part(&table, rows)) && is_wanted;
     counts.tally(Call::Fill as usize, number_of(&answer), same);
 }
 
 // A table, the filled count; number; the table after it.
-fn pad(mut numbers: Numbers<'_>, counts: &mut Counts) {
-    let mut table = numbers.counted_array::<u64, 1024>();
-    let answer = fill::pad(&mut table, numbers.number() as usize).map(|()| []);
-    let same = numbers.answer_is(answer) && numbers.words_are(&table);
+fn pad(numbers: &mut Numbers<'_>, counts: &mut Counts) {
+    let mut table = [0; 1024];
+    let rows = numbers.counted(&mut table);
+    let filled = numbers.number() as usize;
+    let answer = fill::pad(part_mut(&mut table, rows), filled).map(|()| []);
+    let is_wanted = numbers.answer_is(answer);
+    let same = numbers.words_are(part(&table, rows)) && is_wanted;
     counts.tally(Call::Pad as usize, number_of(&answer), same);
 }
 
 // A table, aux, challenges; number and three words; aux after it.
-fn extend(mut numbers: Numbers<'_>, counts: &mut Counts) {
-    let table = numbers.counted_array::<u64, 1024>();
-    let mut aux = numbers.counted_array::<u64, 1024>();
-    let challenges = numbers.counted_array::<u64, 32>();
-    let answer = extend::extend(&table, &mut aux, &challenges).map(XFieldElement::words);
-    let same = numbers.answer_is(answer) && numbers.words_are(&aux);
+fn extend(numbers: &mut Numbers<'_>, counts: &mut Counts) {
+    let mut table = [0; 1024];
+    let mut aux = [0; 1024];
+    let mut challenges = [0; 32];
+    let rows = numbers.counted(&mut table);
+    let sums = numbers.counted(&mut aux);
+    let weights = numbers.counted(&mut challenges);
+    let answer = extend::extend(
+        part(&table, rows),
+        part_mut(&mut aux, sums),
+        part(&challenges, weights),
+    )
+    .map(XFieldElement::words);
+    let is_wanted = numbers.answer_is(answer);
+    let same = numbers.words_are(part(&aux, sums)) && is_wanted;
     counts.tally(Call::Extend as usize, number_of(&answer), same);
 }
 
 // A list, a table, aux, challenges; number; table and aux after it.
-fn run(mut numbers: Numbers<'_>, counts: &mut Counts) {
-    let list = LineList::take(&mut numbers);
-    let mut table = numbers.counted_array::<u64, 1024>();
-    let mut aux = numbers.counted_array::<u64, 1024>();
-    let challenges = numbers.counted_array::<u64, 32>();
-    let number = ran(four_calls::run(&list.lend(), &mut table, &mut aux, &challenges));
-    let same = numbers.number() == number && numbers.words_are(&table) && numbers.words_are(&aux);
+fn run(numbers: &mut Numbers<'_>, counts: &mut Counts) {
+    let list = LineList::take(numbers);
+    let mut table = [0; 1024];
+    let mut aux = [0; 1024];
+    let mut challenges = [0; 32];
+    let rows = numbers.counted(&mut table);
+    let sums = numbers.counted(&mut aux);
+    let weights = numbers.counted(&mut challenges);
+    let number = ran(four_calls::run(
+        &list.lend(),
+        part_mut(&mut table, rows),
+        part_mut(&mut aux, sums),
+        part(&challenges, weights),
+    ));
+    let is_wanted = numbers.number() == number;
+    let is_table = numbers.words_are(part(&table, rows));
+    let same = numbers.words_are(part(&aux, sums)) && is_table && is_wanted;
     counts.tally(Call::Run as usize, number, same);
 }
 
+// Runs the call that comes next, and answers whether there is one.
 // By number: a `TryFrom<u64>` for `Call` would have four arms with these numbers, and here would be a match with four more.
-fn run_line(mut numbers: Numbers<'_>, counts: &mut Counts) {
+fn run_call(numbers: &mut Numbers<'_>, counts: &mut Counts) -> bool {
     match numbers.number() {
         1 => fill(numbers, counts),
         2 => pad(numbers, counts),
         3 => extend(numbers, counts),
         4 => run(numbers, counts),
-        _ => {}
+        _ => return false,
     }
+    true
 }
 
 fn main(rt: HostRuntime) {
-    let found = vectors::run_input(rt.stdin(), run_line);
+    let found = vectors::run_input(rt.stdin(), run_call);
     let calls = [Call::Fill, Call::Pad, Call::Extend, Call::Run];
     for call in calls {
         found.counts.print(&rt, call, call as usize);

@@ -49,30 +49,44 @@ fn answered(text: &[u8]) -> u64 {
     }
 }
 
-// A case at a file's start: its input, the text that is due, the file from the text's second byte on, and how many bytes the case has.
+// A case at a file's start: its input, and the file, with the place where the text that is due begins in it, that text's length and the place after
+// the case.
 #[derive(Clone, Copy)]
 struct Case<'a> {
     input: &'a [u8],
-    text: &'a [u8],
-    later: &'a [u8],
+    file: &'a [u8],
+    begin: usize,
+    length: usize,
     end: usize,
 }
 
 impl<'a> Case<'a> {
-    // The lengths of the input and of the text, a byte, and then both. There is none where the file ends within.
+    // The lengths of the input and of the text, a byte, and then both. There is none where the file ends within. Places wrap at 2^64, so
+    // that after a size of nearly so many a case may end before its input does.
     fn first(file: &'a [u8]) -> Option<Case<'a>> {
         let mut numbers = Numbers { rest: file };
-        let size = numbers.next()? as usize;
-        let length = numbers.next()? as usize;
-        let (_, body) = numbers.rest.split_first()?;
-        let (input, due) = body.split_at_checked(size)?;
-        let (text, rest) = due.split_at_checked(length)?;
+        let size = numbers.number() as usize;
+        let length = numbers.number() as usize;
+        let start = (file.len() - numbers.rest.len()).wrapping_add(1);
+        let begin = start.wrapping_add(size);
+        let end = begin.wrapping_add(length);
+        if file.len() < end {
+            return None;
+        }
         Some(Case {
-            input,
-            text,
-            later: due.get(1..).unwrap_or(due),
-            end: file.len() - rest.len(),
+            input: part(file.get(start..).unwrap_or(&[]), size),
+            file,
+            begin,
+            length,
+            end,
         })
+    }
+
+    // Whether a text is what the file has from a place on.
+    fn is_at(self, text: &[u8], place: usize) -> bool {
+        self.file
+            .get(place..)
+            .is_some_and(|due| same_first(text, due, text.len()))
     }
 
     // The text that is due is put, and nothing past it.
@@ -81,10 +95,10 @@ impl<'a> Case<'a> {
             Ok(n) => {
                 let put = part(out, n);
                 let number = answered(put);
-                let later = same_first(put, self.later, n);
+                let later = self.is_at(put, self.begin.wrapping_add(1));
                 counts.tally(Kind::TextLater as usize, number, later);
-                let same = n == self.text.len()
-                    && same_first(put, self.text, n)
+                let same = n == self.length
+                    && self.is_at(put, self.begin)
                     && untouched(&out[put.len()..]);
                 counts.tally(Kind::Text as usize, number, same);
             }

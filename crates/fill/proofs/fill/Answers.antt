@@ -4,14 +4,19 @@ use Rattle.std.specs.Prelude.{Ok}
 use Rattle.words.proofs.Judgements.{handed_on}
 use Rattle.list.specs.Lists.{U32List, judge_list}
 use Rattle.list.specs.Heights.{list_height}
-use Rattle.list.proofs.HeldLists.{held_height, held_refused, held_judged}
+use Rattle.list.proofs.HeldLists.{closed_refused, held_height, held_refused, held_judged}
 use Rattle.fill.specs.Filling.{filled}
 use Rattle.fill.proofs.Fillings.{fill_list, fill_done}
 use Rattle.fill.proofs.fill.Goals as goal
 
+pub returns-in_err-closed : goal.returns-in_err-closed
+returns-in_err-closed c =
+    rw (handed_on _ c.from_residual.ensures.1)
+    (fill_list _ _ (sym c.if-not-has_shape.ensures) (closed_refused _ c.in_err-closed.ensures))
+
 pub returns-in_err-height : goal.returns-in_err-height
 returns-in_err-height c =
-    rw (handed_on _ c.from_residual.ensures.1)
+    rw (handed_on _ c.from_residual-in_err-height.ensures.1)
     (fill_list _ _ (sym c.if-not-has_shape.ensures) (held_refused _ _ c.in_err-height.ensures.height))
 
 pub fill_sections-requires : goal.fill_sections-requires

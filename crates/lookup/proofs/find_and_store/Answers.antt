@@ -1,5 +1,4 @@
--- `lookup::LentLookupsMut::increase_lookup_multiplicities_for_limb` meets its contract: what is found has room (place_fits), and storing there is the
--- recording (looked_up_at). Assumes nothing.
+-- `lookup::find_and_store` meets its contract: what is found has room (place_fits), and storing there is the recording (looked_up_at). Assumes nothing.
 use Prim.Native.Nat.{ℕ}
 use mathlib.Core.Path.{◌≡◌, refl, ap}
 use Rattle.words.specs.Answers.{Answer}
@@ -8,7 +7,7 @@ use Rattle.words.proofs.Judgements.{handed_on}
 use Rattle.lookup.specs.Cascades.{Lookups, look_up_all}
 use Rattle.lookup.specs.Placing.{Placed, place_of, stored_at, Fits}
 use Rattle.lookup.proofs.LookupCases.{looked_up_at, place_fits}
-use Rattle.lookup.proofs.LentLookupsMut.increase_lookup_multiplicities_for_limb.Goals as goal
+use Rattle.lookup.proofs.find_and_store.Goals as goal
 
 has_room : (t : Lookups) (v : ℕ) {p : Placed} → p ≡ place_of t v → Fits t v p
 has_room t v q = rw q (place_fits t v)
