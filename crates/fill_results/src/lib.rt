@@ -8,6 +8,19 @@ ghost use Rattle.fill_results.specs.Results.{ending as ending_of, carry as carry
 use field::BFieldElement;
 use isa::Opcode;
 
+// The numbers in CI that stand for the six opcodes.
+const SPLIT: u64 = Opcode::Split as u64;
+
+const LT: u64 = Opcode::Lt as u64;
+
+const LOG_2_FLOOR: u64 = Opcode::Log2Floor as u64;
+
+const AND: u64 = Opcode::And as u64;
+
+const POP_COUNT: u64 = Opcode::PopCount as u64;
+
+const POW: u64 = Opcode::Pow as u64;
+
 // Whether a row with these words ends its section.
 // Words, and no method of `ResultRow`: `check_plain`, which asks it of a row of a table, would fill five fields from that row so that three are read.
 #[tactic(auto, unfolding(crate::specs::Results::is_end))]
@@ -29,31 +42,33 @@ pub struct ResultRow {
 
 impl ResultRow {
     // The Result, where the row ends its section; none where CI is none of the six.
-    #[tactic(auto, using(crate::proofs::Results::ending_unknown), unfolding(crate::specs::Results::ending))]
+    #[tactic(auto, unfolding(crate::specs::Results::ending))]
     pub fn ending(self) -> Option<u64>
         ensures { result ≡ ending_of self.ci self.bits }
     {
-        match Opcode::try_from(self.ci).ok()? {
-            Opcode::Lt if self.bits == 0 => Some(0),
-            Opcode::Lt => Some(2),
-            Opcode::Log2Floor => Some(BFieldElement::P - 1),
-            Opcode::Pow => Some(1),
-            Opcode::Split | Opcode::And | Opcode::PopCount => Some(0),
+        match self.ci {
+            LT if self.bits == 0 => Some(0),
+            LT => Some(2),
+            LOG_2_FLOOR => Some(BFieldElement::P - 1),
+            POW => Some(1),
+            SPLIT | AND | POP_COUNT => Some(0),
+            _ => None,
         }
     }
 
     // The Result from that of the row below; none where CI is none of the six.
-    #[tactic(auto, using(crate::proofs::Results::carry_unknown), unfolding(crate::specs::Results::carry))]
+    #[tactic(auto, unfolding(crate::specs::Results::carry))]
     pub fn carry(self, below: u64) -> Option<u64>
         ensures { result ≡ carry_of self.ci self.copy_flag self.bits self.lhs self.rhs below }
     {
-        match Opcode::try_from(self.ci).ok()? {
-            Opcode::Split => Some(below),
-            Opcode::Lt => Some(self.carry_lt(below)),
-            Opcode::And => Some(self.carry_and(below)),
-            Opcode::Log2Floor => Some(self.carry_log_2_floor(below)),
-            Opcode::Pow => Some(self.carry_pow(below)),
-            Opcode::PopCount => Some(self.carry_pop_count(below)),
+        match self.ci {
+            SPLIT => Some(below),
+            LT => Some(self.carry_lt(below)),
+            AND => Some(self.carry_and(below)),
+            LOG_2_FLOOR => Some(self.carry_log_2_floor(below)),
+            POW => Some(self.carry_pow(below)),
+            POP_COUNT => Some(self.carry_pop_count(below)),
+            _ => None,
         }
     }
 

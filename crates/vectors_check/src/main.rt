@@ -46,7 +46,7 @@ fn words_of(found: Option<Nonzero>) -> [u64; 7] {
     found.map_or([0; 7], Nonzero::words)
 }
 
-// Runs the call that comes next, and answers whether there is one: table, aux, challenges, and of the verdict that is wanted document 01's number and
+// Runs the call that comes next, and answers whether there is one: table, aux, challenges, and of the verdict that is wanted the number of the answer and
 // seven words; it begins with a 1.
 fn run_call(numbers: &mut Numbers<'_>, counts: &mut Counts) -> bool {
     if numbers.number() != 1 {
